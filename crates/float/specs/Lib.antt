@@ -1,0 +1,6 @@
+pub mod Ops
+pub mod Sign
+pub mod Above
+pub mod Root
+pub mod Ln
+pub mod Parted

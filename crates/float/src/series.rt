@@ -1,0 +1,85 @@
+// The natural logarithm of an f64, by the rule of specs/Ln.antt.
+ghost use mathlib.Core.Path.{_≡_};
+ghost use Prim.Native.Nat.{_+_, _*_, _^_, _≤_, _<_};
+ghost use lib.Ieee.{binary64, ofBits, ofInt, minus};
+ghost use Rattle.float.specs.Ln.{recip, horner, series, lnOf};
+use crate::parts::HID;
+use crate::parts::INF;
+use crate::parts::split;
+
+// 1 / (2k + 1)
+fn part(k: u64) -> f64
+    requires { ⌜ k ≤ 10 ⌝ }
+    ensures { λ r. ⌜ r ≡ recip k ⌝ }
+{
+    1.0 / ((2 * k + 1) as f64)
+}
+
+// The sum of z ^ k / (2k + 1) for k up to 10.
+fn sum(z: f64) -> f64
+    ensures { λ r. ⌜ r ≡ horner z 10 (recip 10) ⌝ }
+{
+    let mut h = part(10);
+    let mut k = 10u64;
+    while 0 < k {
+        k -= 1;
+        h = h * z + part(k);
+    }
+    h
+}
+
+// j - 1074
+fn exponent(j: u64) -> f64
+    requires { ⌜ j < 4096 ⌝ }
+    ensures { λ r. ⌜ r ≡ ofInt binary64 (minus j 1074) ⌝ }
+{
+    if 1074 <= j {
+        (j - 1074) as f64
+    } else {
+        -((1074 - j) as f64)
+    }
+}
+
+// The logarithm of m * 2 ^ (j - 1074), for an m from √½ to √2.
+fn reduced(m: f64, j: u64) -> f64
+    requires { ⌜ j < 4096 ⌝ }
+    ensures { λ r. ⌜ r ≡ series m (minus j 1074) ⌝ }
+{
+    let s = (m - 1.0) / (m + 1.0);
+    exponent(j) * 0.6931471805599453 + 2.0 * s * sum(s * s)
+}
+
+// The logarithm of a number above zero, from its bit pattern.
+fn of_bits(b: u64) -> f64
+    requires { ⌜ (0 < b) × (b < 2047 * 2 ^ 52) ⌝ }
+    ensures { λ r. ⌜ r ≡ lnOf (ofBits binary64 b) ⌝ }
+{
+    let p = split(b);
+    let m = p.m;
+    let j = p.j;
+    let t = f64::from_bits(1022 * HID + m);
+    if 1.4142135623730951 <= t {
+        reduced(t * 0.5, j + 1)
+    } else {
+        reduced(t, j)
+    }
+}
+
+pub fn ln(x: f64) -> f64
+    ensures { λ r. ⌜ r ≡ lnOf x ⌝ }
+{
+    if x != x {
+        return x;
+    }
+    if x < 0.0 {
+        return 0.0 / 0.0;
+    }
+    if x == 0.0 {
+        return -1.0 / 0.0;
+    }
+    let b = f64::to_bits(x);
+    if b < INF {
+        return of_bits(b);
+    }
+    x
+}
