@@ -1,20 +1,21 @@
 -- The cases of a function that is defined above zero, by the tests that the code makes. Assumes nothing.
 use mathlib.Core.Path.{_≡_, refl, sym, ap, _∙_, subst}
 use Prim.Native.Nat.{ℕ, zero, suc, _+_, _-_, _*_, _/_, _%_, _^_, _≤_, _<_}
-use native.Mathlib.Nat.{lt-of-lt-of-le, lt-of-le-of-lt, le-of-eq, mul-pos, zero-lt-suc, zero-mul, mul-right-comm, mul-lt-mul-of-pos-right, mul-div-cancel, div-lt-iff-lt-mul, not-le-of-lt}
+use native.Mathlib.Nat.{lt-of-lt-of-le, lt-of-le-of-lt, le-of-eq, mul-pos, zero-mul, mul-right-comm, mul-lt-mul-of-pos-right, mul-div-cancel, div-lt-iff-lt-mul, not-le-of-lt}
 use native.Mathlib.Omega.{arith}
-use mathlib.Core.Bool.{Bool, true, false, not, _&&_, _||_, Bool·beq, true≢false, false≢true}
-use lib.Dec.{T, leb, ltb, eqb, ltb→lt, eqb→eq}
-use borrow.Author.Tests.{ltb-false}
+use mathlib.Core.Bool.{Bool, true, false, not, _&&_, true≢false, false≢true}
+use lib.Dec.{T, leb, ltb, eqb, ltb→lt}
 use lib.IntN.{ℤ}
 use lib.Pow.{pow-pos}
 use lib.Ieee.{Float, nan, inf, fin, binary64, up, down, size, fits, isNan, lt, eq, ne, div, ofBits, toBits}
 use lib.Ieee.Digits.{size-le}
-use lib.Ieee.Fits.{and-l, and-r, up-pos, down-pos, kept-lt}
+use lib.Ieee.Fits.{and-r, down-pos, kept-lt}
 use lib.Ieee.Bits.{ofBits-toBits}
 use lib.Ieee.Compare.{nan-differs}
 use lib.Ieee.Exact.{HasValue}
 use Rattle.float.specs.Above.{above}
+use Rattle.float.specs.Sign.{negativeOf}
+use Rattle.float.proofs.SignLaws.{negative-below, not-negative}
 
 pub nan-quotient : div binary64 (ofBits binary64 0) (ofBits binary64 0) ≡ nan
 unfolding div ofBits
@@ -51,29 +52,6 @@ finite m e f =
     omega arith
 
 -- ---- the cases
-no-zero : (s : Bool) (m : ℕ) (e : ℤ) → eqb (suc m * up e * 1) (0 * 1 * down e) && (Bool·beq s false || eqb (suc m * up e * 1) 0) ≡ true → ⊥
-no-zero s m e h =
-    let a = eqb→eq (suc m * up e * 1) (0 * 1 * down e) (and-l (eqb (suc m * up e * 1) (0 * 1 * down e)) (Bool·beq s false || eqb (suc m * up e * 1) 0) (subst T (sym h) tt)) in
-    let p : 0 < suc m * up e = mul-pos (zero-lt-suc m) (up-pos e) in
-    omega (arith, zero-mul (down e))
-
-zero-equal : (s : Bool) (u d : ℕ) → eqb (0 * u * 1) (0 * 1 * d) && (Bool·beq s false || eqb (0 * u * 1) 0) ≡ false → ⊥
-zero-equal s u d h =
-    let e : 0 * u * 1 ≡ 0 = omega (arith, zero-mul u) in
-    let g : eqb 0 (0 * 1 * d) && (Bool·beq s false || eqb 0 0) ≡ false = subst (λ (a : ℕ). eqb a (0 * 1 * d) && (Bool·beq s false || eqb a 0) ≡ false) e h in
-    true≢false (sym (yes s) ∙ subst (λ (b : ℕ). eqb 0 b && (Bool·beq s false || eqb 0 0) ≡ false) (zero-mul d) g)
-  where
-    yes : (s : Bool) → (eqb 0 0 && (Bool·beq s false || eqb 0 0)) ≡ true
-    yes true = refl
-    yes false = refl
-
-pub zero-is : (x : Float) → eq x (ofBits binary64 0) ≡ true → (s : Bool) × (e : ℤ) × (x ≡ fin s 0 e)
-unfolding eq ofBits
-zero-is nan h = absurd (false≢true h)
-zero-is (inf s) h = absurd (false≢true h)
-zero-is (fin s zero e) h = (s, e, refl)
-zero-is (fin s (suc m) e) h = absurd (no-zero s m e h)
-
 module _ (z : Bool → ℤ → Float) (f : ℕ → Float) where
   pub above-nan : (x : Float) → x ≡ nan → x ≡ above z f x
   unfolding above
@@ -84,31 +62,23 @@ module _ (z : Bool → ℤ → Float) (f : ℕ → Float) where
   above-zero s e = refl
 
   pub above-negative : (x : Float) → lt x (ofBits binary64 0) ≡ true → above z f x ≡ nan
-  unfolding above lt ofBits
+  unfolding above lt ofBits negativeOf
   above-negative nan h = refl
   above-negative (inf true) h = refl
-  above-negative (inf false) h = absurd (false≢true h)
+  above-negative (inf false) h = absurd (true≢false (negative-below (inf false) h))
   above-negative (fin true (suc m) e) h = refl
   above-negative (fin true zero e) h = absurd (none (up e) (down e) h)
     where
       none : (u d : ℕ) → ltb 0 (0 * u * 1 + 0 * 1 * d) ≡ true → ⊥
       none u d t = let p = ltb→lt 0 (0 * u * 1 + 0 * 1 * d) (subst T (sym t) tt) in omega (arith, p, zero-mul u, zero-mul d)
-  above-negative (fin false m e) h = absurd (no (ltb (m * up e * 1) (0 * 1 * down e)) (ltb→lt (m * up e * 1) (0 * 1 * down e)) h)
-    where
-      no : (b : Bool) → (T b → m * up e * 1 < 0 * 1 * down e) → b ≡ true → ⊥
-      no true f t = let p = f tt in omega (arith, zero-mul (down e))
-      no false f t = false≢true t
+  above-negative (fin false m e) h = absurd (true≢false (negative-below (fin false m e) h))
 
   pub above-infinite : (x : Float) → T (fits binary64 x) → lt x (ofBits binary64 0) ≡ false → eq x (ofBits binary64 0) ≡ false → 2047 * 2 ^ 52 ≤ toBits binary64 x → above z f x ≡ x
-  unfolding above lt eq ofBits
+  unfolding above negativeOf
   above-infinite nan F h g b = refl
-  above-infinite (inf true) F h g b = absurd (true≢false h)
+  above-infinite (inf true) F h g b = absurd (false≢true (not-negative (inf true) h g))
   above-infinite (inf false) F h g b = refl
-  above-infinite (fin true zero e) F h g b = absurd (zero-equal true (up e) (down e) g)
-  above-infinite (fin true (suc m) e) F h g b = absurd (some (suc m * up e) (down e) (mul-pos (zero-lt-suc m) (up-pos e)) h)
-    where
-      some : (a d : ℕ) → 0 < a → ltb 0 (a * 1 + 0 * 1 * d) ≡ false → ⊥
-      some a d p t = let q = ltb-false 0 (a * 1 + 0 * 1 * d) t in omega (arith, zero-mul d)
+  above-infinite (fin true m e) F h g b = absurd (false≢true (not-negative (fin true m e) h g))
   above-infinite (fin false m e) F h g b = absurd (not-le-of-lt (finite m e F) b)
 
   pub above-units : (v : Float) (n : ℕ) → 0 < n → HasValue v false n (2 ^ 1074) → above z f v ≡ f n

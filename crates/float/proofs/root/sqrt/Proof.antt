@@ -7,8 +7,9 @@ use lib.Ieee.{fin, binary64, fits}
 use lib.Ieee.Compare.{differs-from-itself}
 use lib.Ieee.Bits.{ofBits-toBits}
 use Rattle.float.specs.Root.{rootOf, root}
-use Rattle.float.proofs.Patterns.{no-nan}
-use Rattle.float.proofs.Above.{nan-quotient, is-no-nan, not-zero, zero-is, above-nan, above-zero, above-negative, above-infinite}
+use Rattle.float.proofs.Patterns.{positive-no-nan}
+use Rattle.float.proofs.SignLaws.{zero-is}
+use Rattle.float.proofs.Above.{nan-quotient, is-no-nan, not-zero, above-nan, above-zero, above-negative, above-infinite}
 use Rattle.float.proofs.root.sqrt.Statement.{statement}
 use Rattle.float.proofs.root.sqrt.Tie as tie
 
@@ -37,7 +38,7 @@ root-bits-requires : tie.Need-root-bits-requires
 root-bits-requires c κs = let s = c .before .before .before .before in let n = not-zero (s .args .x) (held s) (c .before .if3 .left) in (omega arith, c .if4 .taken)
 
 float-from-bits-result : tie.Need-float-from-bits-result
-float-from-bits-result c = no-nan (c .root-bits .result) (le-of-lt (c .root-bits .ensures .1))
+float-from-bits-result c = positive-no-nan (c .root-bits .result) (le-of-lt (c .root-bits .ensures .1))
 
 returns-4 : tie.Need-returns-4
 returns-4 c = let s = c .before .before .before .before .before in c .root-bits .ensures .0 ∙ ap root (ofBits-toBits binary64 (s .args .x) (held s))

@@ -7,7 +7,8 @@ use lib.Ieee.Compare.{differs-from-itself}
 use lib.Ieee.Bits.{ofBits-toBits}
 use mathlib.Core.Bool.{true}
 use Rattle.float.specs.Ln.{lnUnits, lnOf}
-use Rattle.float.proofs.Above.{nan-quotient, is-no-nan, not-zero, zero-is, above-nan, above-zero, above-negative, above-infinite}
+use Rattle.float.proofs.SignLaws.{zero-is}
+use Rattle.float.proofs.Above.{nan-quotient, is-no-nan, not-zero, above-nan, above-zero, above-negative, above-infinite}
 use Rattle.float.proofs.LnLaws.{minus-infinity}
 use Rattle.float.proofs.series.ln.Statement.{statement}
 use Rattle.float.proofs.series.ln.Tie as tie

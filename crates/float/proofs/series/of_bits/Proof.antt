@@ -7,7 +7,7 @@ use lib.Ieee.{Float, inf, binary64, minus, le, mul, ofBits, round}
 use borrow.Author.Needs.{needs}
 use Rattle.float.specs.Parted.{Parted}
 use Rattle.float.specs.Ln.{series, lnAt, lnUnits, lnOf}
-use Rattle.float.proofs.Patterns.{no-nan}
+use Rattle.float.proofs.Patterns.{positive-no-nan}
 use Rattle.float.proofs.Above.{above-units}
 use Rattle.float.proofs.PartLaws.{units-pos, place-is, fraction-is}
 use Rattle.float.proofs.series.of_bits.Statement.{statement}
@@ -34,7 +34,7 @@ add-t : tie.Need-add-t
 add-t c = search needs
 
 float-from-bits-t : tie.Need-float-from-bits-t
-float-from-bits-t c = no-nan (1022 * 2 ^ 52 + c .split .result .m) (omega arith)
+float-from-bits-t c = positive-no-nan (1022 * 2 ^ 52 + c .split .result .m) (omega arith)
 
 add-reduced : tie.Need-add-reduced
 add-reduced c = search needs
