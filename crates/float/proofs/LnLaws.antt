@@ -8,7 +8,7 @@ use lib.IntN.{pos, negsuc}
 use borrow.Author.Tests.{le-leb, lt-leb}
 use lib.Ieee.{Float, inf, binary64, minus, odd, units, neg, add, mul, div, ofBits, round, ofInt, inFloat}
 use lib.Ieee.Fits.{round-is}
-use Rattle.float.specs.Ln.{recip, horner}
+use Rattle.float.specs.Ln.{oddRecip, horner}
 
 pub minus-infinity : div binary64 (neg (ofBits binary64 0x3ff0_0000_0000_0000)) (ofBits binary64 0) ≡ inf true
 unfolding div neg ofBits
@@ -47,10 +47,10 @@ minus-lt j h =
     next : (j : ℕ) → j < 1074 → 1074 - j ≡ suc (1074 - suc j)
     next j h = omega arith
 
-pub horner-step : (z : Float) (k : ℕ) (h : Float) → 0 < k → horner z k h ≡ horner z (k - 1) (add binary64 (mul binary64 h z) (recip (k - 1)))
+pub horner-step : (z : Float) (k : ℕ) (h : Float) → 0 < k → horner z k h ≡ horner z (k - 1) (add binary64 (mul binary64 h z) (oddRecip (k - 1)))
 unfolding horner
 horner-step z zero h p = absurd (omega arith)
-horner-step z (suc k) h p = ap (λ (i : ℕ). horner z i (add binary64 (mul binary64 h z) (recip i))) (less k)
+horner-step z (suc k) h p = ap (λ (i : ℕ). horner z i (add binary64 (mul binary64 h z) (oddRecip i))) (less k)
   where
     less : (k : ℕ) → k ≡ suc k - 1
     less k = omega arith

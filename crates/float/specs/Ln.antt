@@ -1,58 +1,47 @@
--- The natural logarithm on binary64 by one fixed rule, each operation rounded. Definitions, and values that they compute.
-use mathlib.Core.Path.{_≡_, refl}
+-- Document 01's logarithm of a binary64, each operation rounded. Its sentences are quoted above the definitions. Definitions only.
 use Prim.Native.Nat.{ℕ, zero, suc, _+_, _-_, _*_, _^_}
-use mathlib.Core.Bool.{true, false, cond}
-use lib.IntN.{ℤ, pos, negsuc}
-use lib.Ieee as Ieee
-use lib.Ieee.{Float, inf, fin, binary64, minus, size, round, ofInt, ofBits, neg}
+use mathlib.Core.Bool.{false, true, cond}
+use lib.IntN.{ℤ, pos}
+use lib.Ieee.{Float, inf, binary64, minus, size, round, ofInt, ofBits, le}
+use Rattle.float.specs.Ops.{_⊕_, _⊖_, _⊗_, _⊘_, f1, f2}
 use Rattle.float.specs.Above.{above}
 
--- 1 / (2k + 1)
-unfoldable pub recip : ℕ → Float
-unfolding Ieee.div ofInt ofBits
-recip k = Ieee.div binary64 (ofBits binary64 0x3ff0_0000_0000_0000) (ofInt binary64 (pos (2 * k + 1)))
+-- "L having bits 3FE62E42FEFA39EF"
+abbrev pub ln2 : Float
+ln2 = ofBits binary64 0x3fe6_2e42_fefa_39ef
 
--- from h on, h * z + 1 / (2i + 1) for each i from k - 1 down to 0
+-- 1/(2k+1)
+unfoldable pub oddRecip : ℕ → Float
+oddRecip k = f1 ⊘ ofInt binary64 (pos (2 * k + 1))
+
+-- "then h·z + 1/(2k+1) for k = 9 down to 0": here for each k below n, the greatest first
 unfoldable pub horner : Float → ℕ → Float → Float
-unfolding Ieee.add Ieee.mul recip
 horner z zero h = h
-horner z (suc k) h = horner z k (Ieee.add binary64 (Ieee.mul binary64 h z) (recip k))
+horner z (suc k) h = horner z k (h ⊗ z ⊕ oddRecip k)
 
--- E * L + (2 * s) * h for s = (M - 1) / (M + 1), with L = ln 2, and h the sum of z ^ k / (2k + 1) for k up to 10, at z = s * s
-unfoldable pub series : Float → ℤ → Float
-unfolding Ieee.add Ieee.sub Ieee.mul Ieee.div horner recip ofInt ofBits
-series M E =
-    let one = ofBits binary64 0x3ff0_0000_0000_0000 in
-    let s = Ieee.div binary64 (Ieee.sub binary64 M one) (Ieee.add binary64 M one) in
-    let h = horner (Ieee.mul binary64 s s) 10 (recip 10) in
-    Ieee.add binary64 (Ieee.mul binary64 (ofInt binary64 E) (ofBits binary64 0x3fe6_2e42_fefa_39ef))
-    (Ieee.mul binary64 (Ieee.mul binary64 (ofBits binary64 0x4000_0000_0000_0000) s) h)
+-- "z = s·s. h starts at 1/21": the last h
+unfoldable pub series : Float → Float
+series s = horner (s ⊗ s) 10 (oddRecip 10)
 
--- M * 2 ^ (j - 1074), with M halved and the exponent one more where M is √2 or above
+-- "Result E·L + (2·s)·h". Nothing else combines E with the series.
+abbrev pub combined : Float → Float → Float → Float
+combined E s h = E ⊗ ln2 ⊕ f2 ⊗ s ⊗ h
+
+-- "s = (M−1)/(M+1)"
+unfoldable pub reducedLn : Float → ℤ → Float
+reducedLn M E = let s = (M ⊖ f1) ⊘ (M ⊕ f1) in combined (ofInt binary64 E) s (series s)
+
+-- "if M is at least hexadecimal bits 3FF6A09E667F3BCD, halve M and add 1 to E". E is j − 1074.
 unfoldable pub lnAt : Float → ℕ → Float
-unfolding Ieee.le Ieee.mul series ofBits
 lnAt M j =
-    cond (Ieee.le (ofBits binary64 0x3ff6_a09e_667f_3bcd) M)
-    (series (Ieee.mul binary64 M (ofBits binary64 0x3fe0_0000_0000_0000)) (minus (j + 1) 1074))
-    (series M (minus j 1074))
+    cond (le (ofBits binary64 0x3ff6_a09e_667f_3bcd) M)
+    (reducedLn (M ⊗ ofBits binary64 0x3fe0_0000_0000_0000) (minus (j + 1) 1074))
+    (reducedLn M (minus j 1074))
 
--- n / 2 ^ 1074, for an n above 0: j is the place of n's highest digit, so M = n / 2 ^ j is from 1 to 2, and `round` is exact there
+-- "x = M·2^E, M in [1, 2)", for an x of n units of 2^−1074. j is the place of n's highest digit, so M is n / 2^j, and `round` is exact there.
 unfoldable pub lnUnits : ℕ → Float
-unfolding size round lnAt
 lnUnits n = let j = size n - 1 in lnAt (round binary64 false n (2 ^ j)) j
 
+-- "Either zero gives minus infinity, a negative number NaN, infinity or NaN itself"
 unfoldable pub lnOf : Float → Float
-unfolding above lnUnits
 lnOf = above (λ s e. inf true) lnUnits
-
-of-1 : lnOf (fin false 1 (pos 0)) ≡ fin false 0 (pos 0)
-unfolding lnOf
-of-1 = refl
-
-of-2 : lnOf (fin false 1 (pos 1)) ≡ ofBits binary64 0x3fe6_2e42_fefa_39ef
-unfolding lnOf ofBits
-of-2 = refl
-
-of-half : lnOf (fin false 1 (negsuc 0)) ≡ neg (ofBits binary64 0x3fe6_2e42_fefa_39ef)
-unfolding lnOf ofBits neg
-of-half = refl

@@ -3,9 +3,9 @@ ghost use Prim.Native.Nat.{_*_, _^_, _≤_, _<_};
 ghost use Rattle.float.specs.Parted.{Parted};
 
 // 2 ^ 52, and the bit pattern of the infinity.
-pub const HID: u64 = 0x10_0000_0000_0000;
+pub const HIDDEN: u64 = 0x10_0000_0000_0000;
 
-pub const INF: u64 = 0x7ff0_0000_0000_0000;
+pub const INFINITY: u64 = 0x7ff0_0000_0000_0000;
 
 // m / 2 ^ 52, from 1 to 2, times 2 ^ j units of 2 ^ -1074.
 pub struct Parts {
@@ -17,7 +17,7 @@ pub fn split(b: u64) -> Parts
     requires { ⌜ (0 < b) × (b < 2047 * 2 ^ 52) ⌝ }
     ensures { λ r. ⌜ Parted b (r .m) (r .j) ⌝ }
 {
-    if b < HID {
+    if b < HIDDEN {
         let z = u64::leading_zeros(b) as u64;
         Parts {
             m: b << (z - 11),
@@ -25,8 +25,8 @@ pub fn split(b: u64) -> Parts
         }
     } else {
         Parts {
-            m: HID + b % HID,
-            j: b / HID + 51,
+            m: HIDDEN + b % HIDDEN,
+            j: b / HIDDEN + 51,
         }
     }
 }

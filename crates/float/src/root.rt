@@ -3,8 +3,8 @@ ghost use mathlib.Core.Path.{_≡_};
 ghost use Prim.Native.Nat.{_*_, _^_, _≤_, _<_};
 ghost use lib.Ieee.{binary64, ofBits};
 ghost use Rattle.float.specs.Root.{isqrt, root};
-use crate::parts::HID;
-use crate::parts::INF;
+use crate::parts::HIDDEN;
+use crate::parts::INFINITY;
 use crate::parts::split;
 
 // The whole part of the root of m * 2 ^ 54. At the loop's head m * 2 ^ 54 is q * q + rem * r, and
@@ -38,7 +38,7 @@ fn root_bits(b: u64) -> u64
     let m = p.m;
     let j = p.j;
     let q = digits(m << (j % 2));
-    (j / 2 + 485) * HID + (q + 1) / 2
+    (j / 2 + 485) * HIDDEN + (q + 1) / 2
 }
 
 pub fn sqrt(x: f64) -> f64
@@ -54,7 +54,7 @@ pub fn sqrt(x: f64) -> f64
         return x;
     }
     let b = f64::to_bits(x);
-    if b < INF {
+    if b < INFINITY {
         return f64::from_bits(root_bits(b));
     }
     x

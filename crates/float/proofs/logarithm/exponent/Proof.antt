@@ -1,10 +1,10 @@
--- `float::series::exponent` meets its contract. Assumes nothing.
+-- `float::logarithm::exponent` meets its contract. Assumes nothing.
 use Prim.Native.Nat.{_-_}
 use native.Mathlib.Omega.{arith}
 use borrow.Author.Needs.{needs}
 use Rattle.float.proofs.LnLaws.{small-int, minus-ge, minus-lt}
-use Rattle.float.proofs.series.exponent.Statement.{statement}
-use Rattle.float.proofs.series.exponent.Tie as tie
+use Rattle.float.proofs.logarithm.exponent.Statement.{statement}
+use Rattle.float.proofs.logarithm.exponent.Tie as tie
 
 int-to-float-result : tie.Need-int-to-float-result
 int-to-float-result c = small-int (c .before .before .args .j - 1074) (omega arith)

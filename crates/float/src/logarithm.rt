@@ -2,28 +2,29 @@
 ghost use mathlib.Core.Path.{_≡_};
 ghost use Prim.Native.Nat.{_+_, _*_, _^_, _≤_, _<_};
 ghost use lib.Ieee.{binary64, ofBits, ofInt, minus};
-ghost use Rattle.float.specs.Ln.{recip, horner, series, lnOf};
-use crate::parts::HID;
-use crate::parts::INF;
+ghost use Rattle.float.specs.Ln.{oddRecip, series, combined, reducedLn, lnOf};
+use crate::parts::HIDDEN;
+use crate::parts::INFINITY;
 use crate::parts::split;
 
 // 1 / (2k + 1)
-fn part(k: u64) -> f64
+fn odd_recip(k: u64) -> f64
     requires { ⌜ k ≤ 10 ⌝ }
-    ensures { λ r. ⌜ r ≡ recip k ⌝ }
+    ensures { λ r. ⌜ r ≡ oddRecip k ⌝ }
 {
     1.0 / ((2 * k + 1) as f64)
 }
 
-// The sum of z ^ k / (2k + 1) for k up to 10.
-fn sum(z: f64) -> f64
-    ensures { λ r. ⌜ r ≡ horner z 10 (recip 10) ⌝ }
+// The sum of z ^ k / (2k + 1) for k up to 10, at z = s * s.
+fn series(s: f64) -> f64
+    ensures { λ r. ⌜ r ≡ series s ⌝ }
 {
-    let mut h = part(10);
+    let z = s * s;
+    let mut h = odd_recip(10);
     let mut k = 10u64;
     while 0 < k {
         k -= 1;
-        h = h * z + part(k);
+        h = h * z + odd_recip(k);
     }
     h
 }
@@ -40,13 +41,19 @@ fn exponent(j: u64) -> f64
     }
 }
 
+fn combined(e: f64, s: f64, h: f64) -> f64
+    ensures { λ r. ⌜ r ≡ combined e s h ⌝ }
+{
+    e * 0.6931471805599453 + 2.0 * s * h
+}
+
 // The logarithm of m * 2 ^ (j - 1074), for an m from √½ to √2.
 fn reduced(m: f64, j: u64) -> f64
     requires { ⌜ j < 4096 ⌝ }
-    ensures { λ r. ⌜ r ≡ series m (minus j 1074) ⌝ }
+    ensures { λ r. ⌜ r ≡ reducedLn m (minus j 1074) ⌝ }
 {
     let s = (m - 1.0) / (m + 1.0);
-    exponent(j) * 0.6931471805599453 + 2.0 * s * sum(s * s)
+    combined(exponent(j), s, series(s))
 }
 
 // The logarithm of a number above zero, from its bit pattern.
@@ -57,7 +64,7 @@ fn of_bits(b: u64) -> f64
     let p = split(b);
     let m = p.m;
     let j = p.j;
-    let t = f64::from_bits(1022 * HID + m);
+    let t = f64::from_bits(1022 * HIDDEN + m);
     if 1.4142135623730951 <= t {
         reduced(t * 0.5, j + 1)
     } else {
@@ -78,7 +85,7 @@ pub fn ln(x: f64) -> f64
         return -1.0 / 0.0;
     }
     let b = f64::to_bits(x);
-    if b < INF {
+    if b < INFINITY {
         return of_bits(b);
     }
     x

@@ -1,4 +1,4 @@
--- `float::series::ln` meets its contract. Assumes nothing.
+-- `float::logarithm::ln` meets its contract. Assumes nothing.
 use mathlib.Core.Path.{sym, ap, _∙_, subst}
 use native.Mathlib.Omega.{arith}
 use lib.Dec.{T}
@@ -10,8 +10,8 @@ use Rattle.float.specs.Ln.{lnUnits, lnOf}
 use Rattle.float.proofs.SignLaws.{zero-is}
 use Rattle.float.proofs.Above.{nan-quotient, is-no-nan, not-zero, above-nan, above-zero, above-negative, above-infinite}
 use Rattle.float.proofs.LnLaws.{minus-infinity}
-use Rattle.float.proofs.series.ln.Statement.{statement}
-use Rattle.float.proofs.series.ln.Tie as tie
+use Rattle.float.proofs.logarithm.ln.Statement.{statement}
+use Rattle.float.proofs.logarithm.ln.Tie as tie
 
 held : (c : tie.Start) → T (fits binary64 (c .args .x))
 held c = subst T (sym (c .good .0 .1)) tt
