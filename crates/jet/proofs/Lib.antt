@@ -1,0 +1,10 @@
+pub mod Every
+pub mod Among
+pub mod Table
+pub mod Build
+pub mod Fold
+pub mod Rules
+pub mod Weights
+pub mod Rows
+pub mod ByE0
+pub mod Depends

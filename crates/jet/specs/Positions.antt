@@ -1,0 +1,49 @@
+-- The positions of a jet's coefficients, and which stand not above which. Definitions only.
+use Prim.Native.Nat.{ℕ, zero, suc, _+_, _*_, _/_, _%_}
+use mathlib.Core.Bool.{Bool, cond, _&&_}
+use mathlib.Core.List.{List, [], _∷_}
+use lib.IntN.{pos}
+use lib.Dec.{leb}
+use lib.Ieee.{Float, binary64, ofInt}
+
+-- "16 floats, the coefficients of a polynomial in marks e0 (degree up to 3), e1 and e2 (up to 1), at position i + 4j + 8k"
+abbrev pub positions : ℕ
+positions = 16
+
+abbrev pub degree0 : ℕ → ℕ
+degree0 m = m % 4
+
+abbrev pub degree1 : ℕ → ℕ
+degree1 m = m / 4 % 2
+
+abbrev pub degree2 : ℕ → ℕ
+degree2 m = m / 8
+
+-- "p not above m in any mark"
+unfoldable pub notAbove : ℕ → ℕ → Bool
+notAbove p m = leb (degree0 p) (degree0 m) && leb (degree1 p) (degree1 m) && leb (degree2 p) (degree2 m)
+
+-- of the k positions from p on, those not above m, ascending
+unfoldable pub among : ℕ → ℕ → ℕ → List ℕ
+unfolding notAbove
+among zero p m = []
+among (suc k) p m = cond (notAbove p m) (p ∷ among k (suc p) m) (among k (suc p) m)
+
+-- the p of the pairs p, m; those of them before m; and those other than 0 and m
+unfoldable pub pairsOf : ℕ → List ℕ
+unfolding among
+pairsOf m = among (suc m) 0 m
+
+unfoldable pub before : ℕ → List ℕ
+unfolding among
+before m = among m 0 m
+
+unfoldable pub between : ℕ → List ℕ
+unfolding among
+between zero = []
+between (suc k) = among k 1 (suc k)
+
+-- "w the degree sum", as a float
+unfoldable pub weightOf : ℕ → Float
+unfolding ofInt
+weightOf m = ofInt binary64 (pos (degree0 m + degree1 m + degree2 m))

@@ -1,0 +1,61 @@
+// The root and the logarithm of a jet.
+ghost use mathlib.Core.Path.{_≡_};
+ghost use Rattle.jet.specs.Coefficients.{rootOf, logarithmOf, cut};
+use crate::Jet;
+use crate::arith::at_most;
+use crate::terms::minus;
+use crate::terms::weight;
+
+pub fn sqrt_to(n: usize, a: Jet) -> Jet
+    ensures { λ r. ⌜ r .c ≡ cut n (rootOf (a .c)) ⌝ }
+{
+    let end = at_most(n);
+    let x = a.c;
+    let mut r = [0.0; 16];
+    if end == 0 {
+        return Jet { c: r };
+    }
+    r[0] = float::sqrt(x[0]);
+    let d = 2.0 * r[0];
+    let mut m: usize = 1;
+    while m < end {
+        r[m] = minus(x[m], &r, &r, m, 1) / d;
+        m += 1;
+    }
+    Jet { c: r }
+}
+
+pub fn sqrt(a: Jet) -> Jet
+    ensures { λ r. ⌜ r .c ≡ rootOf (a .c) ⌝ }
+{
+    sqrt_to(16, a)
+}
+
+// wl holds the coefficients of the logarithm, each times its weight.
+pub fn ln_to(n: usize, a: Jet) -> Jet
+    ensures { λ r. ⌜ r .c ≡ cut n (logarithmOf (a .c)) ⌝ }
+{
+    let end = at_most(n);
+    let x = a.c;
+    let mut l = [0.0; 16];
+    let mut wl = [0.0; 16];
+    if end == 0 {
+        return Jet { c: l };
+    }
+    l[0] = float::ln(x[0]);
+    let mut m: usize = 1;
+    while m < end {
+        let w = weight(m);
+        let v = minus(w * x[m], &wl, &x, m, 1) / (w * x[0]);
+        l[m] = v;
+        wl[m] = w * v;
+        m += 1;
+    }
+    Jet { c: l }
+}
+
+pub fn ln(a: Jet) -> Jet
+    ensures { λ r. ⌜ r .c ≡ logarithmOf (a .c) ⌝ }
+{
+    ln_to(16, a)
+}

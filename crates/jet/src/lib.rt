@@ -1,0 +1,29 @@
+// Jets: polynomials in the marks e0 (degree up to 3), e1 and e2 (up to 1), with document 01's rules for the
+// coefficients of a sum, product, quotient, root and logarithm. specs/Coefficients.antt has the rules.
+mod arith;
+mod functions;
+mod pairs;
+mod terms;
+
+pub use crate::arith::add;
+pub use crate::arith::coefficient;
+pub use crate::arith::derivative;
+pub use crate::arith::div;
+pub use crate::arith::div_to;
+pub use crate::arith::marked;
+pub use crate::arith::mul;
+pub use crate::arith::mul_to;
+pub use crate::arith::neg;
+pub use crate::arith::number;
+pub use crate::arith::recip;
+pub use crate::arith::square;
+pub use crate::arith::sub;
+pub use crate::functions::ln;
+pub use crate::functions::ln_to;
+pub use crate::functions::sqrt;
+pub use crate::functions::sqrt_to;
+
+// The coefficients, of e0^i e1^j e2^k at position i + 4j + 8k.
+pub struct Jet {
+    pub c: [f64; 16],
+}
