@@ -8,7 +8,7 @@ use mathlib.Core.List.{List, [], _∷_, map}
 use lib.Dec.{T, eqb, leb, eqb→eq, leb→le}
 use lib.ListN.{length, getD, take, drop}
 use lib.Seq.{getD-take, getD-drop}
-use Rattle.jet.specs.Positions.{positions, pairsOf}
+use Rattle.jet.specs.Positions.{positions, notAbove, among, pairsOf}
 use Rattle.jet.proofs.Every.{each, each-at, both, same, same→eq, every-at}
 use Rattle.jet.proofs.Among.{In, amongs}
 
@@ -21,11 +21,9 @@ rows = 0 ∷ 1 ∷ 3 ∷ 6 ∷ 10 ∷ 12 ∷ 16 ∷ 22 ∷ 30 ∷ 32 ∷ 36 ∷ 
 
 -- the pairs of m stand from its row on; the next row follows them; it is within the table
 stands : ℕ → Bool
-unfolding pairsOf
 stands m = same (take (length (pairsOf m)) (drop (getD rows m 0) pairs)) (map (λ p. p + positions * m) (pairsOf m))
 
 follows : ℕ → Bool
-unfolding pairsOf
 follows m = eqb (getD rows (m + 1) 0) (getD rows m 0 + length (pairsOf m))
 
 inside : ℕ → Bool
@@ -36,7 +34,7 @@ unfolding stands follows inside
 right m = stands m && (follows m && inside m)
 
 tested : T (each right positions)
-unfolding right
+unfolding right stands follows inside pairsOf among notAbove
 tested = tt
 
 pub pairs-le : (m t : ℕ) → t < length (pairsOf m) → getD (pairsOf m) t 0 ≤ m

@@ -33,28 +33,24 @@ numberOf x = x ∷ replicate (positions - 1) f0
 
 -- a number with 1 at the position of a mark: 1 for e0, 4 for e1, 8 for e2
 unfoldable pub markedOf : ℕ → Float → List Float
-unfolding numberOf
 markedOf m x = set (numberOf x) m f1
 
 abbrev pub sumAt : List Float → List Float → List Float → ℕ → Float
 sumAt a b c m = at a m ⊕ at b m
 
 unfoldable pub sumOf : List Float → List Float → List Float
-unfolding build
 sumOf a b = build (sumAt a b) positions
 
 abbrev pub differenceAt : List Float → List Float → List Float → ℕ → Float
 differenceAt a b c m = at a m ⊖ at b m
 
 unfoldable pub differenceOf : List Float → List Float → List Float
-unfolding build
 differenceOf a b = build (differenceAt a b) positions
 
 abbrev pub negationAt : List Float → List Float → ℕ → Float
 negationAt a c m = neg (at a m)
 
 unfoldable pub negationOf : List Float → List Float
-unfolding build
 negationOf a = build (negationAt a) positions
 
 -- a sum from its first term
@@ -68,51 +64,41 @@ less f x ps = foldl (λ s p. s ⊖ f p) x ps
 
 -- "Product: coefficient m sums a(p)·b(m−p), ascending p, from the first term."
 unfoldable pub productAt : List Float → List Float → List Float → ℕ → Float
-unfolding total pairsOf
 productAt a b c m = total (λ p. at a p ⊗ at b (m - p)) (pairsOf m)
 
 unfoldable pub productOf : List Float → List Float → List Float
-unfolding build productAt
 productOf a b = build (productAt a b) positions
 
 -- "Quotient: a(m), less q(p)·b(m−p) for each p before m in turn, divided by b(0)."
 unfoldable pub quotientAt : List Float → List Float → List Float → ℕ → Float
-unfolding less before
 quotientAt a b q m = less (λ p. at q p ⊗ at b (m - p)) (at a m) (before m) ⊘ at b 0
 
 unfoldable pub quotientOf : List Float → List Float → List Float
-unfolding build quotientAt
 quotientOf a b = build (quotientAt a b) positions
 
 -- "`recip` is 1 over it; `powi(2)` is a product."
 unfoldable pub recipOf : List Float → List Float
-unfolding quotientOf numberOf
 recipOf a = quotientOf (numberOf f1) a
 
 unfoldable pub squareOf : List Float → List Float
-unfolding productOf
 squareOf a = productOf a a
 
 -- "Root: r(0) is IEEE 754's square root, nearest even; then a(m) less r(p)·r(m−p) for p other than 0 and m, over 2·r(0)."
 unfoldable pub rootAt : List Float → List Float → ℕ → Float
-unfolding root less between
 rootAt a r zero = root (at a 0)
 rootAt a r (suc k) = less (λ p. at r p ⊗ at r (suc k - p)) (at a (suc k)) (between (suc k)) ⊘ (f2 ⊗ at r 0)
 
 unfoldable pub rootOf : List Float → List Float
-unfolding build rootAt
 rootOf a = build (rootAt a) positions
 
 -- "Logarithm: with w the degree sum, w(m)·a(m) less (w(p)·l(p))·a(m−p) for p other than 0 and m, over w(m)·a(0)."
 unfoldable pub logarithmAt : List Float → List Float → ℕ → Float
-unfolding lnOf less between weightOf
 logarithmAt a l zero = lnOf (at a 0)
 logarithmAt a l (suc k) =
     less (λ p. (weightOf p ⊗ at l p) ⊗ at a (suc k - p)) (weightOf (suc k) ⊗ at a (suc k)) (between (suc k))
     ⊘ (weightOf (suc k) ⊗ at a 0)
 
 unfoldable pub logarithmOf : List Float → List Float
-unfolding build logarithmAt
 logarithmOf a = build (logarithmAt a) positions
 
 -- k factorial
@@ -121,16 +107,13 @@ factorial zero = 1
 factorial (suc k) = suc k * factorial k
 
 unfoldable pub factorialOf : ℕ → Float
-unfolding ofInt factorial
 factorialOf k = ofInt binary64 (pos (factorial k))
 
 -- "A k-th derivative by e0 is k factorial times that coefficient, a jet free of e0." From the fourth on it is zero.
 unfoldable pub derivativeAt : ℕ → List Float → List Float → ℕ → Float
-unfolding factorialOf
 derivativeAt k a c m = cond (leb k 3 && eqb (degree0 m) 0) (factorialOf k ⊗ at a (m + k)) f0
 
 unfoldable pub derivativeOf : ℕ → List Float → List Float
-unfolding build derivativeAt
 derivativeOf k a = build (derivativeAt k a) positions
 
 -- the first n coefficients, and +0 at the other positions

@@ -25,25 +25,20 @@ notAbove p m = leb (degree0 p) (degree0 m) && leb (degree1 p) (degree1 m) && leb
 
 -- of the k positions from p on, those not above m, ascending
 unfoldable pub among : ℕ → ℕ → ℕ → List ℕ
-unfolding notAbove
 among zero p m = []
 among (suc k) p m = cond (notAbove p m) (p ∷ among k (suc p) m) (among k (suc p) m)
 
 -- the p of the pairs p, m; those of them before m; and those other than 0 and m
 unfoldable pub pairsOf : ℕ → List ℕ
-unfolding among
 pairsOf m = among (suc m) 0 m
 
 unfoldable pub before : ℕ → List ℕ
-unfolding among
 before m = among m 0 m
 
 unfoldable pub between : ℕ → List ℕ
-unfolding among
 between zero = []
 between (suc k) = among k 1 (suc k)
 
 -- "w the degree sum", as a float
 unfoldable pub weightOf : ℕ → Float
-unfolding ofInt
 weightOf m = ofInt binary64 (pos (degree0 m + degree1 m + degree2 m))

@@ -1,7 +1,7 @@
 -- `jet::arith::marked` meets its contract. Assumes nothing.
 use mathlib.Core.Path.{refl, sym}
 use lib.Seq.{set-out}
-use Rattle.jet.specs.Coefficients.{markedOf}
+use Rattle.jet.specs.Coefficients.{numberOf, markedOf}
 use borrow.Author.Needs.{needs}
 use Rattle.jet.proofs.arith.marked.Statement.{statement}
 use Rattle.jet.proofs.arith.marked.Tie as tie
@@ -16,11 +16,11 @@ array-write-c-2 : tie.Need-array-write-c-2
 array-write-c-2 c = search needs
 
 returns : tie.Need-returns
-unfolding markedOf
+unfolding markedOf numberOf
 returns c = refl
 
 returns-2 : tie.Need-returns-2
-unfolding markedOf
+unfolding markedOf numberOf
 returns-2 c = sym (set-out _ _ _ (c .if1 .left))
 
 pub marked-spec : {M : Type 1} → statement M

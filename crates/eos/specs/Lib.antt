@@ -1,0 +1,5 @@
+pub mod Indices
+pub mod Cubic
+pub mod Residual
+pub mod CriticalPoint
+pub mod Linear
