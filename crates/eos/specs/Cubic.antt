@@ -3,7 +3,7 @@ use Prim.Native.Nat.{ℕ, zero, suc, _+_, _*_, min}
 use mathlib.Core.Bool.{Bool, cond}
 use mathlib.Core.List.{List, _∷_}
 use lib.ListN.{getD, replicate}
-use lib.Dec.{eqb}
+use lib.Dec.{eqb, ltb}
 use lib.Ieee.{Float, nan, binary64, ofBits}
 use Rattle.float.specs.Ops.{_⊕_, _⊖_, _⊗_, _⊘_, f0, f1, f2}
 use Rattle.jet.specs.Coefficients.{numberOf, recipOf, squareOf, rootOf, logarithmOf}
@@ -58,6 +58,10 @@ componentOf tc pc ω = record {
 abbrev pub nth : List Float → ℕ → Float
 nth s i = getD s i nan
 
+-- element i of a row of eight, and NaN beyond it
+unfoldable pub elementOf : List Float → ℕ → Float
+elementOf s i = cond (ltb i 8) (nth s i) nan
+
 -- how many components are mixed: n from 1 to 8, and a number beyond as the nearer end
 unfoldable pub componentsOf : Blend → ℕ
 componentsOf b = cond (eqb (b .n) 0) 1 (min (b .n) 8)
@@ -70,10 +74,10 @@ alone x = x ∷ replicate 7 f0
 unfoldable pub pureOf : Blend → ℕ → Blend
 pureOf b i = record {
   n = 1;
-  tc = alone (nth (b .tc) i);
-  a = alone (nth (b .a) i);
-  b = alone (nth (b .b) i);
-  kappa = alone (nth (b .kappa) i);
+  tc = alone (elementOf (b .tc) i);
+  a = alone (elementOf (b .a) i);
+  b = alone (elementOf (b .b) i);
+  kappa = alone (elementOf (b .kappa) i);
   «k_ij» = replicate 64 f0;
   x = alone f1;
 }
@@ -89,12 +93,15 @@ unfoldable pub akOf : List Float → Float → Float → Float → List Float
 akOf t tc kappa a = squareOf ((numberOf f1 ⊟ rootOf (t ⧄ numberOf tc)) ⊠ numberOf kappa ⊞ numberOf f1) ⊠ numberOf a
 
 -- "(ak[i] * ak[j]).sqrt() * (x[i] * x[j] * (1.0 - self.k_ij[(i, j)]))"
-unfoldable pub mixTerm : (ℕ → List Float) → (ℕ → List Float) → (ℕ → ℕ → Float) → ℕ → ℕ → List Float
-mixTerm ak x k i j = rootOf (ak i ⊠ ak j) ⊠ (x i ⊠ x j ⊠ numberOf (f1 ⊖ k i j))
+unfoldable pub mixTerm : List Float → List Float → List Float → List Float → Float → List Float
+mixTerm ai aj xi xj k = rootOf (ai ⊠ aj) ⊠ (xi ⊠ xj ⊠ numberOf (f1 ⊖ k))
 
--- "ak_mix", from zero, over j within i
+-- "ak_mix", from zero, over j within i; `mixRow` adds the terms of one i to s
+unfoldable pub mixRow : ℕ → (ℕ → List Float) → (ℕ → List Float) → (ℕ → ℕ → Float) → ℕ → List Float → List Float
+mixRow n ak x k i s = foldFrom (λ m j. m ⊞ mixTerm (ak i) (ak j) (x i) (x j) (k i j)) n 0 s
+
 unfoldable pub akMix : ℕ → (ℕ → List Float) → (ℕ → List Float) → (ℕ → ℕ → Float) → List Float
-akMix n ak x k = foldFrom (λ s i. foldFrom (λ s' j. s' ⊞ mixTerm ak x k i j) n 0 s) n 0 (numberOf f0)
+akMix n ak x k = foldFrom (λ m i. mixRow n ak x k i m) n 0 (numberOf f0)
 
 -- "x.dot(&self.b.map(D::from))"
 unfoldable pub bMix : ℕ → (ℕ → List Float) → (ℕ → Float) → List Float

@@ -1,4 +1,5 @@
 pub mod Indices
+pub mod Jets
 pub mod Cubic
 pub mod Residual
 pub mod CriticalPoint

@@ -1,21 +1,21 @@
 -- A coefficient depends on the operands' coefficients at positions not above its own, and on no others. So the first n coefficients of a result
 -- need only the first n of its operands. Assumes nothing.
 use mathlib.Core.Path.{_≡_, refl, sym, ap, _∙_}
-use Prim.Native.Nat.{ℕ, zero, suc, _+_, _-_, _≤_, _<_, min}
+use Prim.Native.Nat.{ℕ, zero, suc, _+_, _-_, _%_, _≤_, _<_, min}
 use native.Mathlib.Omega.{arith}
 use native.Mathlib.Nat.{min-le-left, min-le-right}
-use mathlib.Core.Bool.{Bool, true, false}
+use mathlib.Core.Bool.{Bool, true, false, cond, _&&_}
 use mathlib.Core.List.{List, [], _∷_, _++_, append-nil}
 use lib.ListN.{take, replicate, length-take}
 use lib.Seq.{ext-getD, getD-take, take-at, take-take, length-take-le}
-use lib.Dec.{leb}
-use borrow.Author.Tests.{leb-true, leb-false}
+use lib.Dec.{leb, eqb}
+use borrow.Author.Tests.{leb-true, leb-false, eqb-true}
 use lib.Ieee.{Float, nan}
 use Rattle.float.specs.Ops.{_⊕_, _⊖_, _⊗_, _⊘_, f0, f2}
 use Rattle.float.specs.Root.{root}
 use Rattle.float.specs.Ln.{lnOf}
 use Rattle.jet.specs.Positions.{positions, degree0, degree1, degree2, notAbove, among, pairsOf, before, between, weightOf}
-use Rattle.jet.specs.Coefficients.{at, build, total, less, cut, productAt, productOf, quotientAt, quotientOf, rootAt, rootOf, logarithmAt, logarithmOf, sumAt, sumOf, differenceAt, differenceOf}
+use Rattle.jet.specs.Coefficients.{at, build, total, less, cut, productAt, productOf, quotientAt, quotientOf, rootAt, rootOf, logarithmAt, logarithmOf, sumAt, sumOf, differenceAt, differenceOf, factorialOf, derivativeAt, derivativeOf}
 use Rattle.jet.proofs.Every.{Every, none, more, every-map, fold-cong}
 use Rattle.jet.proofs.Among.{In, amongs, told, least, itself, through, rest}
 use Rattle.jet.proofs.Build.{length-build, build-at, depends}
@@ -156,3 +156,25 @@ take-cut n f = go (leb n positions) refl
         let l : positions < n = leb-false n positions e in
         let z : positions - n ≡ 0 = omega arith in
         rw (z, append-nil, take-take n n (build f positions) (omega arith))
+
+-- ---- a derivative by e0, from all coefficients
+
+derivative-at : (k : ℕ) (a b c d : List Float) (m : ℕ) → m < positions → take positions a ≡ take positions b → derivativeAt k a c m ≡ derivativeAt k b d m
+unfolding derivativeAt
+derivative-at k a b c d m h e = go (leb k 3) refl (eqb (m % 4) 0) refl
+  where
+    go : (x : Bool) → leb k 3 ≡ x → (y : Bool) → eqb (m % 4) 0 ≡ y → cond (x && y) (factorialOf k ⊗ at a (m + k)) f0 ≡ cond (x && y) (factorialOf k ⊗ at b (m + k)) f0
+    go true p true q =
+        let l = leb-true k 3 p in
+        let z = eqb-true (m % 4) 0 q in
+        ap (λ (v : Float). factorialOf k ⊗ v) (taken positions (m + k) a b e (omega arith))
+    go true p false q = refl
+    go false p y q = refl
+
+pub derivative-all : (k : ℕ) (a b : List Float) → take positions a ≡ take positions b → derivativeOf k a ≡ derivativeOf k b
+unfolding derivativeOf
+derivative-all k a b e =
+    ext-getD nan (build (derivativeAt k a) positions) (build (derivativeAt k b) positions) (length-build (derivativeAt k a) positions ∙ sym (length-build (derivativeAt k b) positions))
+    (λ m l.
+    let h : m < positions = rw (length-build (derivativeAt k a) positions) at l in
+    build-at (derivativeAt k a) positions m h ∙ derivative-at k a b _ _ m h e ∙ sym (build-at (derivativeAt k b) positions m h))

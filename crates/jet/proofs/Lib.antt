@@ -8,3 +8,4 @@ pub mod Weights
 pub mod Rows
 pub mod ByE0
 pub mod Depends
+pub mod Prefix

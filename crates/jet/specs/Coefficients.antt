@@ -1,4 +1,5 @@
 -- The rules of document 01's stand-ins for a jet's coefficients. A jet is the list of its coefficients. Definitions only.
+use mathlib.Core.Path.{_≡_}
 use Prim.Native.Nat.{ℕ, zero, suc, _+_, _-_, _*_}
 use mathlib.Core.Bool.{Bool, cond, _&&_}
 use mathlib.Core.List.{List, [], _∷_, _++_, foldl}
@@ -119,3 +120,7 @@ derivativeOf k a = build (derivativeAt k a) positions
 -- the first n coefficients, and +0 at the other positions
 unfoldable pub cut : ℕ → List Float → List Float
 cut n a = take n a ++ replicate (positions - n) f0
+
+-- a and b have the same first n coefficients
+abbrev pub Upto : ℕ → List Float → List Float → Type 0
+Upto n a b = take n a ≡ take n b

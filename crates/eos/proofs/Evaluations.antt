@@ -1,0 +1,114 @@
+-- The evaluations, from the first coefficients of the Helmholtz energy. Assumes nothing.
+use mathlib.Core.Path.{_≡_, refl, sym, ap, _∙_}
+use Prim.Native.Nat.{ℕ, _≤_, _<_}
+use native.Mathlib.Omega.{arith}
+use mathlib.Core.Bool.{true, false}
+use mathlib.Core.List.{List}
+use lib.ListN.{take}
+use lib.Ieee.{Float, eq, ofInt, ofBits}
+use Rattle.float.specs.Ops.{_⊕_, _⊖_, _⊗_, _⊘_, f0, f1}
+use Rattle.float.specs.Ln.{lnOf}
+use Rattle.jet.specs.Positions.{positions}
+use Rattle.jet.specs.Coefficients.{at, Upto, numberOf, markedOf, sumOf, differenceOf, productOf, quotientOf, recipOf, rootOf, logarithmOf, derivativeOf, factorial, factorialOf}
+use Rattle.jet.proofs.Depends.{sum-first, quotient-first, derivative-all}
+use Rattle.eos.specs.declared.types.Blend.{Blend}
+use Rattle.eos.specs.declared.types.Pressure.{Pressure}
+use Rattle.eos.specs.Cubic.{nth, componentsOf}
+use Rattle.eos.specs.Residual.{helmholtz, alongVolume, derived, pressureFrom, slopeFrom, curvatureFrom, pDpdrho, pDpdrhoD2pdrho2, chemicalPotential}
+use Rattle.eos.specs.CriticalPoint.{energyOverT, dmuDn, eigenvalue, moved, idealGas, thirdDerivative}
+use Rattle.eos.proofs.Energy.{helmholtz-cong, coefficient-of}
+
+-- ---- along the density
+
+pub along-law : (b : Blend) (t v : Float) (n : ℕ) (T U : List Float) (moles : ℕ → List Float) (out : List Float)
+    → 1 ≤ n → n ≡ componentsOf b → T ≡ numberOf t → U ≡ markedOf 1 v → ((i : ℕ) → i < n → moles i ≡ numberOf (nth (b .x) i)) → Upto 4 out (helmholtz b n T U moles)
+    → Upto 4 out (alongVolume b t v)
+unfolding alongVolume
+along-law b t v n T U moles out h en et ev em eo =
+    eo
+    ∙ helmholtz-cong 4 n h b T U moles (λ i. numberOf (nth (b .x) i)) (λ i l. ap (take 4) (em i l))
+    ∙ ap (λ (a : List Float). take 4 (helmholtz b n a U (λ i. numberOf (nth (b .x) i)))) et
+    ∙ ap (λ (a : List Float). take 4 (helmholtz b n (numberOf t) a (λ i. numberOf (nth (b .x) i)))) ev
+    ∙ ap (λ (k : ℕ). take 4 (helmholtz b k (numberOf t) (markedOf 1 v) (λ i. numberOf (nth (b .x) i)))) en
+
+derived-of : (k : ℕ) (a b : List Float) → k < 4 → Upto 4 a b → derived k a ≡ derived k b
+unfolding derived
+derived-of k a b h e = ap (λ (x : Float). factorialOf k ⊗ x) (coefficient-of 4 k a b h e)
+
+module _ (b : Blend) (t ρ : Float) (a : List Float) (e : Upto 4 a (alongVolume b t (f1 ⊘ ρ))) where
+  first : derived 1 a ≡ derived 1 (alongVolume b t (f1 ⊘ ρ))
+  first = derived-of 1 a (alongVolume b t (f1 ⊘ ρ)) (omega arith) e
+
+  second : derived 2 a ≡ derived 2 (alongVolume b t (f1 ⊘ ρ))
+  second = derived-of 2 a (alongVolume b t (f1 ⊘ ρ)) (omega arith) e
+
+  third : derived 3 a ≡ derived 3 (alongVolume b t (f1 ⊘ ρ))
+  third = derived-of 3 a (alongVolume b t (f1 ⊘ ρ)) (omega arith) e
+
+  pressure-of : pressureFrom t ρ a ≡ pressureFrom t ρ (alongVolume b t (f1 ⊘ ρ))
+  unfolding pressureFrom
+  pressure-of = rw first
+
+  slope-of : slopeFrom t (f1 ⊘ ρ) a ≡ slopeFrom t (f1 ⊘ ρ) (alongVolume b t (f1 ⊘ ρ))
+  unfolding slopeFrom
+  slope-of = rw second
+
+  curvature-of : curvatureFrom (f1 ⊘ ρ) a ≡ curvatureFrom (f1 ⊘ ρ) (alongVolume b t (f1 ⊘ ρ))
+  unfolding curvatureFrom
+  curvature-of = rw (second, third)
+
+  pub p-dpdrho-law : (p s : Float) → p ≡ pressureFrom t ρ a → s ≡ slopeFrom t (f1 ⊘ ρ) a → _≡_ {A = Pressure} (record { p = p; «dp_drho» = s; «d2p_drho2» = f0 }) (pDpdrho b t ρ)
+  unfolding pDpdrho
+  p-dpdrho-law p s ep es = rw (ep ∙ pressure-of, es ∙ slope-of)
+
+  pub p-dpdrho-d2pdrho2-law : (p s d : Float) → p ≡ pressureFrom t ρ a → s ≡ slopeFrom t (f1 ⊘ ρ) a → d ≡ curvatureFrom (f1 ⊘ ρ) a → _≡_ {A = Pressure} (record { p = p; «dp_drho» = s; «d2p_drho2» = d }) (pDpdrhoD2pdrho2 b t ρ)
+  unfolding pDpdrhoD2pdrho2
+  p-dpdrho-d2pdrho2-law p s d ep es ed = rw (ep ∙ pressure-of, es ∙ slope-of, ed ∙ curvature-of)
+
+  -- the first derivative is one times its coefficient
+  one-times : f1 ⊗ at a 1 ≡ derived 1 a
+  unfolding derived factorialOf factorial ofInt ofBits
+  one-times = refl
+
+  pub potential-law : (l : Float) → l ≡ lnOf ρ → at a 0 ⊖ f1 ⊗ at a 1 ⊗ (f1 ⊘ ρ) ⊕ t ⊗ l ≡ chemicalPotential b t ρ
+  unfolding chemicalPotential
+  potential-law l el = rw (el, one-times, first, coefficient-of 4 0 a (alongVolume b t (f1 ⊘ ρ)) (omega arith) e)
+
+-- ---- towards a critical point
+
+module _ (b : Blend) (t v : List Float) where
+  pub energy-over-t-law : (n : List Float) (moles : ℕ → List Float) (a out : List Float) → moles 0 ≡ n → Upto positions a (helmholtz b 1 t v moles) → out ≡ quotientOf a t → Upto positions out (energyOverT b t v n)
+  unfolding energyOverT
+  energy-over-t-law n moles a out em ea eo =
+      ap (take positions) eo
+      ∙ quotient-first positions a (helmholtz b 1 t v (λ i. n))
+      (ea ∙ helmholtz-cong positions 1 (omega arith) b t v moles (λ i. n) (λ i l. let z : i ≡ 0 = omega arith in ap (λ (k : ℕ). take positions (moles k)) z ∙ ap (take positions) em)) t t refl
+
+  pub dmu-dn-law : (z : Float) (n a out : List Float) → n ≡ markedOf 1 z → Upto positions a (energyOverT b t v n) → out ≡ derivativeOf 2 a → out ≡ dmuDn b t v z
+  unfolding dmuDn
+  dmu-dn-law z n a out en ea eo = eo ∙ derivative-all 2 a (energyOverT b t v (markedOf 1 z)) (ea ∙ ap (λ (x : List Float). take positions (energyOverT b t v x)) en)
+
+  pub eigenvalue-law : (z : Float) (n s q d m one out : List Float) → n ≡ numberOf z → s ≡ rootOf n → q ≡ productOf s s → d ≡ dmuDn b t v z → m ≡ productOf d q → one ≡ numberOf f1 → out ≡ sumOf m one → out ≡ eigenvalue b t v z
+  unfolding eigenvalue
+  eigenvalue-law z n s q d m one out en es eq ed em e1 eo = rw (eo, em, ed, e1, eq, es, en)
+
+  pub third-derivative-law : (z : Float) (n a g s out : List Float) → n ≡ moved z → Upto positions a (energyOverT b t v n) → g ≡ idealGas n v → s ≡ sumOf a g → out ≡ derivativeOf 3 s → out ≡ thirdDerivative b t v z
+  unfolding thirdDerivative
+  third-derivative-law z n a g s out en ea eg es eo =
+      eo
+      ∙ ap (derivativeOf 3) es
+      ∙ derivative-all 3 (sumOf a g) (sumOf (energyOverT b t v n) (idealGas n v)) (sum-first positions a (energyOverT b t v n) ea g (idealGas n v) (ap (take positions) eg))
+      ∙ ap (λ (x : List Float). derivativeOf 3 (sumOf (energyOverT b t v x) (idealGas x v))) en
+
+pub moved-law : (z : Float) (n s one u e m out : List Float) → n ≡ numberOf z → s ≡ rootOf n → one ≡ numberOf f1 → u ≡ productOf s one → e ≡ markedOf 1 f0 → m ≡ productOf u e → out ≡ sumOf n m → out ≡ moved z
+unfolding moved
+moved-law z n s one u e m out en es e1 eu ee em eo = rw (eo, em, ee, eu, e1, es, en)
+
+module _ (n v : List Float) where
+  pub none-law : (zero out : List Float) → eq (at n 0) f0 ≡ true → zero ≡ numberOf f0 → out ≡ productOf n zero → out ≡ idealGas n v
+  unfolding idealGas
+  none-law zero out h ez eo = rw (h, eo, ez)
+
+  pub some-law : (q l one d out : List Float) → eq (at n 0) f0 ≡ false → q ≡ quotientOf n v → l ≡ logarithmOf q → one ≡ numberOf f1 → d ≡ differenceOf l one → out ≡ productOf n d → out ≡ idealGas n v
+  unfolding idealGas
+  some-law q l one d out h eq el e1 ed eo = rw (h, eo, ed, el, eq, e1)

@@ -1,0 +1,6 @@
+pub mod Folds
+pub mod Totals
+pub mod Energy
+pub mod Evaluations
+pub mod Rows2
+pub mod Chain

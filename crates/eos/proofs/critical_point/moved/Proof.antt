@@ -1,0 +1,43 @@
+-- `eos::critical_point::moved` meets its contract. Assumes nothing.
+use Rattle.eos.proofs.Evaluations.{moved-law}
+use borrow.Author.Needs.{needs}
+use Rattle.eos.proofs.critical_point.moved.Statement.{statement}
+use Rattle.eos.proofs.critical_point.moved.Tie as tie
+
+number-requires : tie.Need-number-requires
+number-requires c κs = search needs
+
+sqrt-requires : tie.Need-sqrt-requires
+sqrt-requires c κs = search needs
+
+number-requires-2 : tie.Need-number-requires-2
+number-requires-2 c κs = search needs
+
+mul-requires : tie.Need-mul-requires
+mul-requires c κs = search needs
+
+marked-requires : tie.Need-marked-requires
+marked-requires c κs = search needs
+
+mul-requires-2 : tie.Need-mul-requires-2
+mul-requires-2 c κs = search needs
+
+add-requires : tie.Need-add-requires
+add-requires c κs = search needs
+
+returns : tie.Need-returns
+returns c =
+    moved-law (c .before .before .before .before .before .before .before .args .z) _ _ _ _ _ _ _ (c .before .before .before .before .before .before .number .ensures) (c .before .before .before .before .before .sqrt .ensures) (c .before .before .before .before .number2 .ensures) (c .before .before .before .mul .ensures) (c .before .before .marked .ensures) (c .before .mul2 .ensures) (c .add .ensures)
+
+pub moved-spec : {M : Type 1} → statement M
+moved-spec =
+    tie.close
+    (tie.spec
+    number-requires
+    sqrt-requires
+    number-requires-2
+    mul-requires
+    marked-requires
+    mul-requires-2
+    add-requires
+    returns)

@@ -1,0 +1,80 @@
+-- `eos::residual::over` meets its contract. Assumes nothing.
+use mathlib.Core.Path.{_≡_, refl, sym, ap, _∙_}
+use Prim.Native.Nat.{ℕ, _-_, _≤_, _<_}
+use native.Mathlib.Omega.{arith}
+use lib.ListN.{length, length-set, take}
+use Rattle.jet.specs.Coefficients.{Upto, numberOf}
+use Rattle.jet.specs.Ops.{_⊞_, _⧄_}
+use Rattle.jet.proofs.Prefix.{div-upto}
+use Rattle.eos.specs.Indices.{foldFrom, jetTotal}
+use Rattle.eos.specs.Jets.{jetAt}
+use Rattle.eos.specs.Cubic.{nth}
+use Rattle.eos.proofs.Folds.{fold-turn, fold-end}
+use Rattle.eos.proofs.Totals.{put-turn}
+use borrow.Author.Needs.{needs}
+use Rattle.eos.proofs.residual.over.Statement.{statement}
+use Rattle.eos.proofs.residual.over.Tie as tie
+
+abbrev Inv-loop : tie.InvT-loop
+Inv-loop w n d a out₀ i₀ out i = (i ≤ n) × (length out ≡ 8) × ((k : ℕ) → k < i → Upto w (jetAt out k) (jetAt a k ⧄ d .c))
+
+abbrev μ-loop : tie.MeasureT-loop
+μ-loop w n d a out₀ i₀ out i = n - i
+
+number-requires : tie.Need-number-requires Inv-loop μ-loop
+number-requires c κs = search needs
+
+loop-holds : tie.Need-loop-holds Inv-loop μ-loop
+loop-holds c = (omega arith, refl, λ k h. absurd (omega arith))
+
+mul-div-to : tie.Need-mul-div-to Inv-loop μ-loop
+mul-div-to c = search needs
+
+array-copy-out-div-to : tie.Need-array-copy-out-div-to Inv-loop μ-loop
+array-copy-out-div-to c = search needs
+
+div-to-requires : tie.Need-div-to-requires Inv-loop μ-loop
+div-to-requires c κs = search needs
+
+mul-out : tie.Need-mul-out Inv-loop μ-loop
+mul-out c = search needs
+
+array-set-from-out : tie.Need-array-set-from-out Inv-loop μ-loop
+array-set-from-out c = search needs
+
+add-i : tie.Need-add-i Inv-loop μ-loop
+add-i c = search needs
+
+loop-less : tie.Need-loop-less Inv-loop μ-loop
+loop-less c = search needs
+
+loop-again : tie.Need-loop-again Inv-loop μ-loop
+loop-again c =
+    let l = c .before .before .before in
+    let a = l .before .before .args in
+    let i = l .loop .i in (
+      omega arith,
+      length-set (l .loop .out) i _ ∙ l .loop .inv .1,
+      put-turn (λ k r. Upto (a .w) r (jetAt (a .t3) k ⧄ a .d .c)) (l .loop .out) i _ (omega arith) (l .loop .inv .2) (div-upto (a .w) (jetAt (a .t3) i) (jetAt (a .t3) i) _ refl (a .d .c) (a .d .c) refl (c .div-to .ensures)),
+    )
+
+returns : tie.Need-returns Inv-loop μ-loop
+returns c = λ i h. c .before .loop .inv .2 i (omega arith)
+
+pub over-spec : {M : Type 1} → statement M
+over-spec =
+    tie.close
+    (tie.spec
+    Inv-loop
+    μ-loop
+    number-requires
+    loop-holds
+    mul-div-to
+    array-copy-out-div-to
+    div-to-requires
+    mul-out
+    array-set-from-out
+    add-i
+    loop-less
+    loop-again
+    returns)

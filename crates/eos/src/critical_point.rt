@@ -1,0 +1,92 @@
+// The evaluations of state/critical_point.rs for one component: the first of the blend, with its fraction.
+ghost use mathlib.Core.Path.{_≡_};
+ghost use Rattle.jet.specs.Positions.{positions};
+ghost use Rattle.jet.specs.Coefficients.{Upto};
+ghost use Rattle.eos.specs.CriticalPoint.{energyOverT, dmuDn, eigenvalue as eigenvalueOf, moved as movedOf, idealGas, thirdDerivative, criticalityConditions, stabilityCondition};
+use crate::residual::helmholtz;
+use crate::types::Blend;
+use crate::types::Criticality;
+use crate::types::Stability;
+use jet::Jet;
+
+fn energy_over_t(blend: Blend, t: Jet, v: Jet, n: Jet) -> Jet
+    ensures { λ r. ⌜ Upto positions (r .c) (energyOverT blend (t .c) (v .c) (n .c)) ⌝ }
+{
+    let moles = [n; 8];
+    let a = helmholtz(16, 1, blend, t, v, moles);
+    jet::div(a, t)
+}
+
+fn dmu_dn(blend: Blend, t: Jet, v: Jet, z: f64) -> Jet
+    ensures { λ r. ⌜ r .c ≡ dmuDn blend (t .c) (v .c) z ⌝ }
+{
+    jet::derivative(2, energy_over_t(blend, t, v, jet::marked(1, z)))
+}
+
+// The smallest eigenvalue of M, which is M itself for one component.
+fn eigenvalue(blend: Blend, t: Jet, v: Jet, z: f64) -> Jet
+    ensures { λ r. ⌜ r .c ≡ eigenvalueOf blend (t .c) (v .c) z ⌝ }
+{
+    let sqrt_z = jet::sqrt(jet::number(z));
+    let z_mix = jet::mul(sqrt_z, sqrt_z);
+    let m = jet::mul(dmu_dn(blend, t, v, z), z_mix);
+    jet::add(m, jet::number(1.0))
+}
+
+// The mole number moved by s = 0 + e0 along the eigenvector 1.
+fn moved(z: f64) -> Jet
+    ensures { λ r. ⌜ r .c ≡ movedOf z ⌝ }
+{
+    let n = jet::number(z);
+    let u = jet::mul(jet::sqrt(n), jet::number(1.0));
+    jet::add(n, jet::mul(u, jet::marked(1, 0.0)))
+}
+
+fn ideal_gas(n: Jet, v: Jet) -> Jet
+    ensures { λ r. ⌜ r .c ≡ idealGas (n .c) (v .c) ⌝ }
+{
+    let c = n.c;
+    if c[0] == 0.0 {
+        return jet::mul(n, jet::number(0.0));
+    }
+    let l = jet::ln(jet::div(n, v));
+    jet::mul(n, jet::sub(l, jet::number(1.0)))
+}
+
+fn third_derivative(blend: Blend, t: Jet, v: Jet, z: f64) -> Jet
+    ensures { λ r. ⌜ r .c ≡ thirdDerivative blend (t .c) (v .c) z ⌝ }
+{
+    let n = moved(z);
+    let a = energy_over_t(blend, t, v, n);
+    jet::derivative(3, jet::add(a, ideal_gas(n, v)))
+}
+
+pub fn criticality_conditions(blend: Blend, temperature: f64, density: f64) -> Criticality
+    ensures { λ r. ⌜ r ≡ criticalityConditions blend temperature density ⌝ }
+{
+    let t = jet::marked(4, temperature);
+    let v = jet::recip(jet::marked(8, density));
+    let x = blend.x;
+    let l = eigenvalue(blend, t, v, x[0]);
+    let c = third_derivative(blend, t, v, x[0]);
+    let f = l.c;
+    let g = c.c;
+    Criticality {
+        l: f[0],
+        c2: g[0],
+        dl_dt: f[4],
+        dl_drho: f[8],
+        dc2_dt: g[4],
+        dc2_drho: g[8],
+    }
+}
+
+pub fn stability_condition(blend: Blend, temperature: f64, density: f64) -> Stability
+    ensures { λ r. ⌜ r ≡ stabilityCondition blend temperature density ⌝ }
+{
+    let v = jet::recip(jet::marked(8, density));
+    let x = blend.x;
+    let l = eigenvalue(blend, jet::number(temperature), v, x[0]);
+    let f = l.c;
+    Stability { f: f[0], df: f[8] }
+}
