@@ -15,7 +15,7 @@ use Rattle.eos.specs.declared.types.Blend.{Blend}
 use Rattle.eos.specs.declared.types.Pressure.{Pressure}
 use Rattle.eos.specs.Cubic.{nth, componentsOf}
 use Rattle.eos.specs.Residual.{helmholtz, alongVolume, derived, pressureFrom, slopeFrom, curvatureFrom, pDpdrho, pDpdrhoD2pdrho2, chemicalPotential}
-use Rattle.eos.specs.CriticalPoint.{energyOverT, dmuDn, eigenvalue, moved, idealGas, thirdDerivative}
+use Rattle.eos.specs.Critical.{energyOverT, dmuDn, eigenvalue, moved, idealGas, thirdDerivative}
 use Rattle.eos.proofs.Energy.{helmholtz-cong, coefficient-of}
 
 -- ---- along the density

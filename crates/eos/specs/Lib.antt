@@ -2,5 +2,5 @@ pub mod Indices
 pub mod Jets
 pub mod Cubic
 pub mod Residual
-pub mod CriticalPoint
+pub mod Critical
 pub mod Linear

@@ -2,7 +2,7 @@
 ghost use mathlib.Core.Path.{_≡_};
 ghost use Rattle.jet.specs.Positions.{positions};
 ghost use Rattle.jet.specs.Coefficients.{Upto};
-ghost use Rattle.eos.specs.CriticalPoint.{energyOverT, dmuDn, eigenvalue as eigenvalueOf, moved as movedOf, idealGas, thirdDerivative, criticalityConditions, stabilityCondition};
+ghost use Rattle.eos.specs.Critical.{energyOverT, dmuDn, eigenvalue as eigenvalueOf, moved as movedOf, idealGas, thirdDerivative, criticalityConditions, stabilityCondition};
 use crate::residual::helmholtz;
 use crate::types::Blend;
 use crate::types::Criticality;

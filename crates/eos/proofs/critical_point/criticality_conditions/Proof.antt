@@ -1,6 +1,6 @@
 -- `eos::critical_point::criticality_conditions` meets its contract. Assumes nothing.
 use mathlib.Core.Path.{refl}
-use Rattle.eos.specs.CriticalPoint.{criticalityConditions}
+use Rattle.eos.specs.Critical.{criticalityConditions}
 use borrow.Author.Needs.{needs}
 use Rattle.eos.proofs.critical_point.criticality_conditions.Statement.{statement}
 use Rattle.eos.proofs.critical_point.criticality_conditions.Tie as tie

@@ -1,6 +1,6 @@
 -- `eos::critical_point::stability_condition` meets its contract. Assumes nothing.
 use mathlib.Core.Path.{refl}
-use Rattle.eos.specs.CriticalPoint.{stabilityCondition}
+use Rattle.eos.specs.Critical.{stabilityCondition}
 use borrow.Author.Needs.{needs}
 use Rattle.eos.proofs.critical_point.stability_condition.Statement.{statement}
 use Rattle.eos.proofs.critical_point.stability_condition.Tie as tie
