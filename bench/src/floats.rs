@@ -81,7 +81,7 @@ pub fn rows() -> Vec<Row> {
 
 /// A twin of crates/float/src/root.rt from `estimate` to `whole_root` that tells how the digits were found.
 mod twin {
-    const HIDDEN: u64 = 1 << 52;
+    const HIDDEN_BIT: u64 = 1 << 52;
     const HALF: u64 = 1 << 27;
 
     pub enum Found {
@@ -92,10 +92,10 @@ mod twin {
     }
 
     fn estimate(m: u64) -> f64 {
-        let odd = m / (2 * HIDDEN);
+        let odd = m / (2 * HIDDEN_BIT);
         let digits = m >> odd;
-        let f = f64::from_bits(1022 * HIDDEN + digits);
-        let v = f64::from_bits((1022 + odd) * HIDDEN + digits);
+        let f = f64::from_bits(1022 * HIDDEN_BIT + digits);
+        let v = f64::from_bits((1022 + odd) * HIDDEN_BIT + digits);
         let g = f * f;
         let p = 0.323953838 + 0.919711865 * f + g * (-0.321493498 + 0.0885725434 * f - 0.0107363865 * g);
         let y = p * if odd == 0 { 1.0 } else { 1.4142135623730951 };
@@ -103,7 +103,7 @@ mod twin {
     }
 
     fn upper_half(t: f64) -> u64 {
-        if t < 8.0 { t.to_bits() % HIDDEN / 0x200_0000 } else { 0 }
+        if t < 8.0 { t.to_bits() % HIDDEN_BIT / 0x200_0000 } else { 0 }
     }
 
     fn lower_half(t: f64, a: u64, d: u64) -> u64 {
@@ -139,11 +139,11 @@ mod twin {
     /// For a positive finite x.
     pub fn of(x: f64) -> Found {
         let b = x.to_bits();
-        let (m, j) = if b < HIDDEN {
+        let (m, j) = if b < HIDDEN_BIT {
             let z = b.leading_zeros() as u64;
             (b << (z - 11), 63 - z)
         } else {
-            (HIDDEN + b % HIDDEN, b / HIDDEN + 51)
+            (HIDDEN_BIT + b % HIDDEN_BIT, b / HIDDEN_BIT + 51)
         };
         found(m << (j % 2))
     }

@@ -1,13 +1,13 @@
 // An f64 from its bit pattern and back, for every pattern and every value.
 ghost use mathlib.Core.Path.{_≡_};
 ghost use lib.Ieee.{binary64, ofBits, toBits};
-use crate::parts::INFINITY;
+use crate::parts::INFINITY_BITS;
 
 // Every NaN pattern gives the one NaN.
 pub fn from_bits(b: u64) -> f64
     ensures { λ r. ⌜ r ≡ ofBits binary64 b ⌝ }
 {
-    if b % 0x8000_0000_0000_0000 <= INFINITY {
+    if b % 0x8000_0000_0000_0000 <= INFINITY_BITS {
         return f64::from_bits(b);
     }
     0.0 / 0.0
