@@ -9,7 +9,7 @@ use crate::parts::HIDDEN_BIT;
 use crate::parts::INFINITY_BITS;
 use crate::parts::split;
 
-// 2 ^ 27, the weight of the upper half's last digit in the lower half.
+// 2 ^ 27, the weight of the upper half.
 const HALF: u64 = 0x800_0000;
 
 // The whole part of the root of m * 2 ^ 54, a binary digit at a time. At the loop's head m * 2 ^ 54 is q * q + rem * r,
@@ -47,8 +47,8 @@ fn count_up(q: u64, rem: u64) -> u64
     r
 }
 
-// For a v = m / 2 ^ 52 from 1 to 4: 4 + 2√v, less 1e-10 of √v, so that the upper half taken from it is not above the
-// root's. A polynomial is within 9e-6 of the root of v or of v / 2, and Heron's step from there within 4e-11 of √v.
+// 4 + 2s, where s is √v less about 1e-10 of it, for v = m / 2 ^ 52 from 1 to 4. A polynomial is within 9e-6 of √f, for
+// f = v or v / 2 from 1 to 2, and Heron's step from there within 4e-11. The 1e-10 keeps the upper half from being too large.
 fn estimate(m: u64) -> f64
     requires { ⌜ m < 2 ^ 54 ⌝ }
 {
@@ -64,7 +64,7 @@ fn estimate(m: u64) -> f64
     (y + 4.0) + v * 0.9999999998 / y
 }
 
-// The upper half that an estimate t gives: between 4 and 8 its last place is that of √v / 2 ^ 51.
+// The 27 digits of √m = √v * 2 ^ 26 before the point, from t = 4 + 2s. Between 4 and 8 the lower 52 bits are s * 2 ^ 51.
 fn upper_half(t: f64) -> u64
     ensures { λ a. ⌜ a < 2 ^ 27 ⌝ }
 {
@@ -74,8 +74,8 @@ fn upper_half(t: f64) -> u64
     0
 }
 
-// The lower half, from the upper half a and what is left, d = m - a * a: it is d * 2 ^ 27 over √m + a. 1e-10 more in
-// the divisor keeps it from being above the root's. Adding 2 ^ 52 - 1/2 cuts off what is behind the point.
+// The next 27 digits, (√m - a) * 2 ^ 27, which is d over (√m + a) / 2 ^ 27 for d = m - a * a. The divisor is made about
+// 2e-10 larger, which keeps them from being too large. Adding 2 ^ 52 - 1/2 leaves the whole part in the lowest bits.
 fn lower_half(t: f64, a: u64, d: u64) -> u64
     requires { ⌜ (a < 2 ^ 27) × (d < 2 ^ 30) ⌝ }
     ensures { λ b. ⌜ b < 2 ^ 29 ⌝ }
@@ -94,15 +94,15 @@ fn from_halves(m: u64, a: u64, d: u64, b: u64) -> u64
     requires { ⌜ (m < 2 ^ 54) × (a < 2 ^ 27) × (d < 2 ^ 30) × (b < 2 ^ 29) × (a * a + d ≡ m) ⌝ }
     ensures { λ q. ⌜ q ≡ isqrt (m * 2 ^ 54) ⌝ }
 {
-    let s = d * HALF;
-    let t = 2 * a * b;
-    if t <= s {
-        let u = s - t;
-        if u < 0x1_0000_0000 {
-            let v = u * HALF;
-            let w = b * b;
-            if w <= v {
-                return count_up(a * HALF + b, v - w);
+    let scaled = d * HALF;
+    let cross = 2 * a * b;
+    if cross <= scaled {
+        let rest = scaled - cross;
+        if rest < 0x1_0000_0000 {
+            let low = rest * HALF;
+            let square = b * b;
+            if square <= low {
+                return count_up(a * HALF + b, low - square);
             }
         }
     }
@@ -116,9 +116,9 @@ fn whole_root(m: u64) -> u64
 {
     let t = estimate(m);
     let a = upper_half(t);
-    let s = a * a;
-    if s <= m {
-        let d = m - s;
+    let square = a * a;
+    if square <= m {
+        let d = m - square;
         if d < 0x4000_0000 {
             return from_halves(m, a, d, lower_half(t, a, d));
         }
