@@ -5,11 +5,11 @@ ghost use mathlib.Core.Path.{_≡_};
 ghost use Prim.Native.Nat.{_+_, _*_, _^_, _≤_, _<_};
 ghost use lib.Ieee.{binary64, ofBits};
 ghost use Rattle.float.specs.Root.{isqrt, root};
-use crate::parts::HIDDEN;
-use crate::parts::INFINITY;
+use crate::parts::HIDDEN_BIT;
+use crate::parts::INFINITY_BITS;
 use crate::parts::split;
 
-// 2 ^ 27, the weight of the upper half's last digit in the lower half.
+// 2 ^ 27, the weight of the upper half.
 const HALF: u64 = 0x800_0000;
 
 // The whole part of the root of m * 2 ^ 54, a binary digit at a time. At the loop's head m * 2 ^ 54 is q * q + rem * r,
@@ -47,35 +47,35 @@ fn count_up(q: u64, rem: u64) -> u64
     r
 }
 
-// For a v = m / 2 ^ 52 from 1 to 4: 4 + 2√v, less 1e-10 of √v, so that the upper half taken from it is not above the
-// root's. A polynomial is within 9e-6 of the root of v or of v / 2, and Heron's step from there within 4e-11 of √v.
+// 4 + 2s, where s is √v less about 1e-10 of it, for v = m / 2 ^ 52 from 1 to 4. A polynomial is within 9e-6 of √f, for
+// f = v or v / 2 from 1 to 2, and Heron's step from there within 4e-11. The 1e-10 keeps the upper half from being too large.
 fn estimate(m: u64) -> f64
     requires { ⌜ m < 2 ^ 54 ⌝ }
 {
-    let odd = m / (2 * HIDDEN);
+    let odd = m / (2 * HIDDEN_BIT);
     let digits = m >> odd;
-    let f = f64::from_bits(1022 * HIDDEN + digits);
-    let v = f64::from_bits((1022 + odd) * HIDDEN + digits);
+    let f = f64::from_bits(1022 * HIDDEN_BIT + digits);
+    let v = f64::from_bits((1022 + odd) * HIDDEN_BIT + digits);
     let g = f * f;
     let p = 0.323953838
         + 0.919711865 * f
         + g * (-0.321493498 + 0.0885725434 * f - 0.0107363865 * g);
-    let y = if odd == 0 { p } else { p * 1.4142135623730951 };
+    let y = p * if odd == 0 { 1.0 } else { 1.4142135623730951 };
     (y + 4.0) + v * 0.9999999998 / y
 }
 
-// The upper half that an estimate t gives: between 4 and 8 its last place is that of √v / 2 ^ 51.
+// The 27 digits of √m = √v * 2 ^ 26 before the point, from t = 4 + 2s. Between 4 and 8 the lower 52 bits are s * 2 ^ 51.
 fn upper_half(t: f64) -> u64
     ensures { λ a. ⌜ a < 2 ^ 27 ⌝ }
 {
     if t < 8.0 {
-        return f64::to_bits(t) % HIDDEN / 0x200_0000;
+        return f64::to_bits(t) % HIDDEN_BIT / 0x200_0000;
     }
     0
 }
 
-// The lower half, from the upper half a and what is left, d = m - a * a: it is d * 2 ^ 27 over √m + a. 1e-10 more in
-// the divisor keeps it from being above the root's. Adding 2 ^ 52 - 1/2 cuts off what is behind the point.
+// The next 27 digits, (√m - a) * 2 ^ 27, which is d over (√m + a) / 2 ^ 27 for d = m - a * a. The divisor is made about
+// 2e-10 larger, which keeps them from being too large. Adding 2 ^ 52 - 1/2 leaves the whole part in the lowest bits.
 fn lower_half(t: f64, a: u64, d: u64) -> u64
     requires { ⌜ (a < 2 ^ 27) × (d < 2 ^ 30) ⌝ }
     ensures { λ b. ⌜ b < 2 ^ 29 ⌝ }
@@ -94,15 +94,15 @@ fn from_halves(m: u64, a: u64, d: u64, b: u64) -> u64
     requires { ⌜ (m < 2 ^ 54) × (a < 2 ^ 27) × (d < 2 ^ 30) × (b < 2 ^ 29) × (a * a + d ≡ m) ⌝ }
     ensures { λ q. ⌜ q ≡ isqrt (m * 2 ^ 54) ⌝ }
 {
-    let s = d * HALF;
-    let t = 2 * a * b;
-    if t <= s {
-        let u = s - t;
-        if u < 0x1_0000_0000 {
-            let v = u * HALF;
-            let w = b * b;
-            if w <= v {
-                return count_up(a * HALF + b, v - w);
+    let scaled = d * HALF;
+    let cross = 2 * a * b;
+    if cross <= scaled {
+        let rest = scaled - cross;
+        if rest < 0x1_0000_0000 {
+            let low = rest * HALF;
+            let square = b * b;
+            if square <= low {
+                return count_up(a * HALF + b, low - square);
             }
         }
     }
@@ -116,9 +116,9 @@ fn whole_root(m: u64) -> u64
 {
     let t = estimate(m);
     let a = upper_half(t);
-    let s = a * a;
-    if s <= m {
-        let d = m - s;
+    let square = a * a;
+    if square <= m {
+        let d = m - square;
         if d < 0x4000_0000 {
             return from_halves(m, a, d, lower_half(t, a, d));
         }
@@ -136,7 +136,7 @@ fn root_bits(b: u64) -> u64
     let m = p.m;
     let j = p.j;
     let q = whole_root(m << (j % 2));
-    (j / 2 + 485) * HIDDEN + (q + 1) / 2
+    (j / 2 + 485) * HIDDEN_BIT + (q + 1) / 2
 }
 
 pub fn sqrt(x: f64) -> f64
@@ -152,7 +152,7 @@ pub fn sqrt(x: f64) -> f64
         return x;
     }
     let b = f64::to_bits(x);
-    if b < INFINITY {
+    if b < INFINITY_BITS {
         return f64::from_bits(root_bits(b));
     }
     x
