@@ -1,19 +1,21 @@
--- `root x` is the value of binary64 that is nearest to √x. In units of 2 ^ -1074 let √x be √v, `root x` be a, and any other value be b.
--- a is as near to √v as b is: the midpoint of a and a smaller b is not above √v, (a + b) / 2 ≤ √v, and that of a and a larger b is not below it. Assumes nothing.
-use mathlib.Core.Path.{_≡_, sym, ap, _∙_, subst}
+-- `root x` is the value of binary64 that is nearest to √x, in the words of specs/Nearest.antt: the law stands at the end. Assumes nothing.
+use mathlib.Core.Path.{_≡_, refl, sym, ap, _∙_, subst}
 use Prim.Native.Nat.{ℕ, zero, suc, _+_, _-_, _*_, _/_, _%_, _^_, _≤_, _<_, zero-le, compare, Ordering, Ordering·lt, Ordering·eq, Ordering·gt}
-use native.Mathlib.Nat.{le-trans, le-of-eq, le-of-lt, le-of-suc-le-suc, lt-of-lt-of-le, lt-of-not-le, not-le-of-lt, zero-lt-suc, mul-assoc, mul-one, one-mul, le-div-iff-mul-le, le-of-mul-le-mul-right, zero-mul, pow-succ', mul-le-mul, mul-le-mul-right, mul-lt-mul-of-pos-right, lt-of-mul-lt-mul-right, div-add-mod', mod-lt, eq-of-mul-eq-mul-right, div-lt-iff-lt-mul}
+use native.Mathlib.Nat.{le-trans, le-of-eq, le-of-lt, le-of-suc-le-suc, lt-of-lt-of-le, lt-of-not-le, not-le-of-lt, zero-lt-suc, mul-assoc, mul-one, one-mul, le-div-iff-mul-le, le-of-mul-le-mul-right, zero-mul, pow-succ', mul-le-mul, mul-le-mul-right, mul-lt-mul-of-pos-right, lt-of-mul-lt-mul-right, div-add-mod', mod-lt, eq-of-mul-eq-mul-right, div-lt-iff-lt-mul, mul-div-cancel, mul-pos, add-zero}
 use native.Mathlib.Decide.{decLe}
 use native.Mathlib.Omega.{arith}
-use mathlib.Core.Bool.{true, false, _&&_, true≢false}
+use mathlib.Core.Bool.{Bool, true, false, _&&_, true≢false, false≢true}
 use lib.Dec.{T, lit≤, leb, ltb, eqb, ltb→lt, leb→le}
 use lib.IntN.{ℤ, pos, negsuc}
 use lib.Pow.{pow-add, pow-pos, pow-mono, pow-lt, shl-lt}
-use lib.Ieee.{Float, nan, inf, fin, binary64, up, down, size, nearest, fits}
+use lib.Ieee.{Float, nan, inf, fin, binary64, up, down, size, nearest, fits, lt, ofBits}
 use lib.Ieee.Digits.{size-lt, size-le, size-reaches}
-use lib.Ieee.Fits.{and-l, and-r, down-pos}
+use lib.Ieee.Fits.{and-l, and-r, up-pos, down-pos}
 use lib.Ieee.Exact.{HasValue, units-val}
 use lib.Ieee.Nearest.{closest}
+use Rattle.float.specs.Ops.{f0}
+use Rattle.float.specs.Sign.{finiteOf, negativeOf}
+use Rattle.float.specs.Nearest.{unitsOf, AsNear, NearestRoot}
 use Rattle.float.specs.Root.{sticky, rootOf, root}
 use Rattle.float.proofs.Cmp.{Cmp, cmp, reach, short, under}
 use Rattle.float.proofs.Isqrt.{sticky-cmp}
@@ -151,10 +153,6 @@ module _ (v S p Q b : ℕ) (P : 0 < p) (near : (w : ℕ) → compare S (2 * w) �
           le-trans (twice' ((2 * Q + 1) * p) v (not-over ((2 * Q + 1) * p) x)) (mul-le-mul s s)
 
 -- ---- √n units squared, for an n above 0
--- a is as near to √v as b is
-abbrev pub AsNear : ℕ → ℕ → ℕ → Type 0
-AsNear v a b = (b < a → (a + b) * (a + b) ≤ 4 * v) × (a < b → 4 * v ≤ (a + b) * (a + b))
-
 low-end : (i S : ℕ) → 2 ^ (52 + suc i) ≤ S / 2 → 2 ^ 52 * (2 * 2 ^ i) * 2 ≤ S
 low-end i S l = let e = pow-add 2 52 (suc i) in let f = pow-succ' 2 i in omega arith
 
@@ -215,7 +213,7 @@ module _ (n : ℕ) (N : 0 < n) (U : n < 2 ^ 2098) where
       subst (λ (r : Float). HasValue r false (Q * 2 ^ suc (dropped .0)) (2 ^ 1074)) (sym (round-of (sticky (n * 2 ^ 1074)) (suc (dropped .0)) lo hi))
       (units-val binary64 false Q (suc (dropped .0)) room)
 
-  root-near : (m j : ℕ) → m < 2 ^ 53 → AsNear (n * 2 ^ 1074) (Q * 2 ^ suc (dropped .0)) (m * 2 ^ j)
+  root-near : (m j : ℕ) → m < 2 ^ 53 → AsNear (n * 2 ^ 1074) (Q * 2 ^ suc (dropped .0)) false (m * 2 ^ j)
   root-near m j M =
       let p = 2 ^ dropped .0 in
       let e : 2 ^ suc (dropped .0) ≡ 2 * 2 ^ dropped .0 = pow-succ' 2 (dropped .0) in
@@ -223,7 +221,7 @@ module _ (n : ℕ) (N : 0 < n) (U : n < 2 ^ 2098) where
       let w = rw e at is-within in
       let g : ((R : ℕ) → 2 ^ 52 ≤ R → m * 2 ^ j < suc R * (2 * p) → m * 2 ^ j ≤ R * (2 * p)) × ((R : ℕ) → 2 ^ 52 ≤ R → R * (2 * p) < m * 2 ^ j → suc R * (2 * p) ≤ m * 2 ^ j) =
       subst (λ (h : ℕ). ((R : ℕ) → 2 ^ 52 ≤ R → m * 2 ^ j < suc R * h → m * 2 ^ j ≤ R * h) × ((R : ℕ) → 2 ^ 52 ≤ R → R * h < m * 2 ^ j → suc R * h ≤ m * 2 ^ j)) e (gap-below m j (suc (dropped .0)) M, gap-above m j (suc (dropped .0)) M) in
-      subst (λ (h : ℕ). AsNear (n * 2 ^ 1074) (Q * h) (m * 2 ^ j)) (sym e)
+      subst (λ (h : ℕ). AsNear (n * 2 ^ 1074) (Q * h) false (m * 2 ^ j)) (sym e)
       (smaller (n * 2 ^ 1074) (sticky (n * 2 ^ 1074)) p Q (m * 2 ^ j) (pow-pos (dropped .0)) (sticky-cmp (n * 2 ^ 1074)) l w g, larger (n * 2 ^ 1074) (sticky (n * 2 ^ 1074)) p Q (m * 2 ^ j) (pow-pos (dropped .0)) (sticky-cmp (n * 2 ^ 1074)) l w g)
 
 -- ---- of values
@@ -237,14 +235,90 @@ root-of : (x : Float) (n : ℕ) → 0 < n → HasValue x false n (2 ^ 1074) → 
 unfolding root
 root-of x n N v = above-units (λ s e. fin s 0 e) rootOf x n N v
 
--- For an x above zero, which is n units, there is an a such that `root x` is a units, and a is as near to √x as any value of binary64 that is not negative
-pub root-nearest : (x : Float) (n : ℕ) → T (fits binary64 x) → HasValue x false n (2 ^ 1074) → 0 < n
-    → (a : ℕ) × HasValue (root x) false a (2 ^ 1074) × ((y : Float) (b : ℕ) → T (fits binary64 y) → HasValue y false b (2 ^ 1074) → AsNear (n * 2 ^ 1074) a b)
-root-nearest x n f v N =
-    let U = units-lt x n f v in (
-      Q n N U * 2 ^ suc (dropped n N U .0),
-      subst (λ (r : Float). HasValue r false (Q n N U * 2 ^ suc (dropped n N U .0)) (2 ^ 1074)) (sym (root-of x n N v)) (root-units n N U),
-      λ y b g w.
-          let s = shape y b g w in
-          subst (λ (b : ℕ). AsNear (n * 2 ^ 1074) (Q n N U * 2 ^ suc (dropped n N U .0)) b) (sym (s .3)) (root-near n N U (s .0) (s .1) (s .2)),
-    )
+-- at a value that is not negative
+near-positive : (x : Float) (n : ℕ) (F : T (fits binary64 x)) (v : HasValue x false n (2 ^ 1074)) (N : 0 < n) (y : Float) (b : ℕ) → T (fits binary64 y) → HasValue y false b (2 ^ 1074)
+    → AsNear (n * 2 ^ 1074) (Q n N (units-lt x n F v) * 2 ^ suc (dropped n N (units-lt x n F v) .0)) false b
+near-positive x n F v N y b g w =
+    let U = units-lt x n F v in
+    let s = shape y b g w in
+    subst (λ (b : ℕ). AsNear (n * 2 ^ 1074) (Q n N U * 2 ^ suc (dropped n N U .0)) false b) (sym (s .3)) (root-near n N U (s .0) (s .1) (s .2))
+
+-- where a is as near as 0, it is as near as any number below 0
+near-negative : (v a b : ℕ) → AsNear v a false 0 → (a - b) * (a - b) ≤ 4 * v
+near-negative v zero b h = le-trans (le-of-eq (ap (λ (k : ℕ). k * k) (none b))) zero-le
+  where
+    none : (b : ℕ) → 0 - b ≡ 0
+    none b = omega arith
+near-negative v (suc a) b h = le-trans (mul-le-mul less less) (subst (λ (k : ℕ). k * k ≤ 4 * v) (add-zero (suc a)) (h .0 (zero-lt-suc a)))
+  where
+    less : suc a - b ≤ suc a
+    less = omega arith
+
+-- ---- a value in units
+exact : (m : ℕ) (e : ℤ) → down e ≤ 2 ^ 1074 → m * up e * 2 ^ 1074 ≡ m * up e * 2 ^ 1074 / down e * down e
+exact m (pos a) d = by-one (m * 2 ^ a * 2 ^ 1074)
+  where
+    by-one : (n : ℕ) → n ≡ n / 1 * 1
+    by-one n = omega arith
+exact m (negsuc a) d =
+    let l : suc a ≤ 1074 = pow-le-back (suc a) 1074 d in
+    let k = m * 2 ^ (1074 - suc a) in
+    let t : m * 1 * 2 ^ 1074 ≡ m * 2 ^ (1074 - suc a) * 2 ^ suc a = ap (λ (x : ℕ). x * 2 ^ 1074) (mul-one m) ∙ ap (λ (x : ℕ). m * x) (ap (λ (x : ℕ). 2 ^ x) (back (suc a) l) ∙ pow-add 2 (1074 - suc a) (suc a)) ∙ sym (mul-assoc m (2 ^ (1074 - suc a)) (2 ^ suc a)) in
+    t ∙ ap (λ (x : ℕ). x * 2 ^ suc a) (sym (mul-div-cancel k (pow-pos (suc a)))) ∙ ap (λ (x : ℕ). x / 2 ^ suc a * 2 ^ suc a) (sym t)
+  where
+    back : (k : ℕ) → k ≤ 1074 → 1074 ≡ 1074 - k + k
+    back k l = omega arith
+
+pub units-exact : (x : Float) → T (fits binary64 x) → finiteOf x ≡ true → HasValue x (negativeOf x) (unitsOf x) (2 ^ 1074)
+unfolding fits finiteOf negativeOf unitsOf
+units-exact nan F h = absurd (false≢true h)
+units-exact (inf s) F h = absurd (false≢true h)
+units-exact (fin s zero e) F h = (refl, nothing (0 * up e * 2 ^ 1074) (down e) (ap (λ (x : ℕ). x * 2 ^ 1074) (zero-mul (up e)) ∙ zero-mul (2 ^ 1074)) (down-pos e))
+  where
+    nothing : (n d : ℕ) → n ≡ 0 → 0 < d → n ≡ n / d * d
+    nothing n d z p = z ∙ sym (zero-mul d) ∙ ap (λ (k : ℕ). k * d) (sym (ap (λ (k : ℕ). k / d) (z ∙ sym (zero-mul d)) ∙ mul-div-cancel 0 p))
+units-exact (fin s (suc m) e) F h =
+    let A = eqb (suc m % 2) 1 in
+    let B = ltb (suc m) (2 ^ 53) in
+    let C = leb (down e) (2 ^ 1074) in
+    let g = and-l (A && B && C) (ltb (suc m * up e) (2 ^ 1024 * down e)) F in
+    (refl, exact (suc m) e (leb→le (down e) (2 ^ 1074) (and-r (A && B) C g)))
+
+of-value : (v : Float) (s : Bool) (a : ℕ) → HasValue v s a (2 ^ 1074) → (unitsOf v ≡ a) × (finiteOf v ≡ true) × (negativeOf v ≡ s)
+unfolding finiteOf negativeOf unitsOf
+of-value nan s a h = absurd h
+of-value (inf t) s a h = absurd h
+of-value (fin t m e) s a h = (ap (λ (x : ℕ). x / down e) (h .1) ∙ mul-div-cancel a (down-pos e), refl, h .0)
+
+-- above zero
+positive-units : (x : Float) → T (fits binary64 x) → finiteOf x ≡ true → lt f0 x ≡ true → (negativeOf x ≡ false) × (0 < unitsOf x)
+unfolding lt ofBits finiteOf negativeOf
+positive-units nan F h p = absurd (false≢true h)
+positive-units (inf s) F h p = absurd (false≢true h)
+positive-units (fin true m e) F h p = absurd (false≢true p)
+positive-units (fin false zero e) F h p = absurd (not-le-of-lt (ltb→lt (0 * 1 * down e) (0 * up e * 1) (subst T (sym p) tt)) (le-trans (le-of-eq (ap (λ (x : ℕ). x * 1) (zero-mul (up e)))) zero-le))
+positive-units (fin false (suc m) e) F h p = (refl, some (suc m * up e * 2 ^ 1074) (unitsOf (fin false (suc m) e)) (down e) (mul-pos (mul-pos (zero-lt-suc m) (up-pos e)) (pow-pos 1074)) (units-exact (fin false (suc m) e) F h .1))
+  where
+    some : (n k d : ℕ) → 0 < n → n ≡ k * d → 0 < k
+    some n zero d q z = absurd (not-le-of-lt q (le-of-eq (z ∙ zero-mul d)))
+    some n (suc k) d q z = zero-lt-suc k
+
+-- ---- the law: for every finite x above zero, no value of binary64 is nearer to √x than `root x`
+pub root-nearest : (x : Float) → T (fits binary64 x) → finiteOf x ≡ true → lt f0 x ≡ true → NearestRoot x (root x)
+root-nearest x F h p =
+    let q = positive-units x F h p in
+    let n = unitsOf x in
+    let v : HasValue x false (unitsOf x) (2 ^ 1074) = subst (λ (s : Bool). HasValue x s (unitsOf x) (2 ^ 1074)) (q .0) (units-exact x F h) in
+    let U = units-lt x n F v in
+    let a = Q n (q .1) U * 2 ^ suc (dropped n (q .1) U .0) in
+    let r = of-value (root x) false a (subst (λ (r : Float). HasValue r false a (2 ^ 1074)) (sym (root-of x n (q .1) v)) (root-units n (q .1) U)) in
+    let zero-near : AsNear (n * 2 ^ 1074) a false 0 = root-near n (q .1) U 0 0 (pow-pos 53) in
+    record {
+      finite = r .1;
+      not-negative = r .2;
+      as-near = λ y G g. subst (λ (k : ℕ). AsNear (n * 2 ^ 1074) k (negativeOf y) (unitsOf y)) (sym (r .0)) (by-sign n a (near-positive x n F v (q .1)) zero-near y G (negativeOf y) (units-exact y G g));
+    }
+  where
+    by-sign : (n a : ℕ) → ((y : Float) (b : ℕ) → T (fits binary64 y) → HasValue y false b (2 ^ 1074) → AsNear (n * 2 ^ 1074) a false b) → AsNear (n * 2 ^ 1074) a false 0 → (y : Float) → T (fits binary64 y) → (s : Bool) → HasValue y s (unitsOf y) (2 ^ 1074) → AsNear (n * 2 ^ 1074) a s (unitsOf y)
+    by-sign n a f z y G false w = f y (unitsOf y) G w
+    by-sign n a f z y G true w = near-negative (n * 2 ^ 1074) a (unitsOf y) z

@@ -3,8 +3,8 @@ ghost use mathlib.Core.Path.{_≡_};
 ghost use Prim.Native.Nat.{_+_, _*_, _^_, _≤_, _<_};
 ghost use lib.Ieee.{binary64, ofBits, ofInt, minus};
 ghost use Rattle.float.specs.Ln.{oddRecip, series, combined, reducedLn, lnOf};
-use crate::parts::HIDDEN;
-use crate::parts::INFINITY;
+use crate::parts::HIDDEN_BIT;
+use crate::parts::INFINITY_BITS;
 use crate::parts::split;
 
 // 1 / (2k + 1)
@@ -64,7 +64,7 @@ fn of_bits(b: u64) -> f64
     let p = split(b);
     let m = p.m;
     let j = p.j;
-    let t = f64::from_bits(1022 * HIDDEN + m);
+    let t = f64::from_bits(1022 * HIDDEN_BIT + m);
     if 1.4142135623730951 <= t {
         reduced(t * 0.5, j + 1)
     } else {
@@ -85,7 +85,7 @@ pub fn ln(x: f64) -> f64
         return -1.0 / 0.0;
     }
     let b = f64::to_bits(x);
-    if b < INFINITY {
+    if b < INFINITY_BITS {
         return of_bits(b);
     }
     x

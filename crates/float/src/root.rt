@@ -5,8 +5,8 @@ ghost use mathlib.Core.Path.{_≡_};
 ghost use Prim.Native.Nat.{_+_, _*_, _^_, _≤_, _<_};
 ghost use lib.Ieee.{binary64, ofBits};
 ghost use Rattle.float.specs.Root.{isqrt, root};
-use crate::parts::HIDDEN;
-use crate::parts::INFINITY;
+use crate::parts::HIDDEN_BIT;
+use crate::parts::INFINITY_BITS;
 use crate::parts::split;
 
 // 2 ^ 27, the weight of the upper half's last digit in the lower half.
@@ -52,15 +52,15 @@ fn count_up(q: u64, rem: u64) -> u64
 fn estimate(m: u64) -> f64
     requires { ⌜ m < 2 ^ 54 ⌝ }
 {
-    let odd = m / (2 * HIDDEN);
+    let odd = m / (2 * HIDDEN_BIT);
     let digits = m >> odd;
-    let f = f64::from_bits(1022 * HIDDEN + digits);
-    let v = f64::from_bits((1022 + odd) * HIDDEN + digits);
+    let f = f64::from_bits(1022 * HIDDEN_BIT + digits);
+    let v = f64::from_bits((1022 + odd) * HIDDEN_BIT + digits);
     let g = f * f;
     let p = 0.323953838
         + 0.919711865 * f
         + g * (-0.321493498 + 0.0885725434 * f - 0.0107363865 * g);
-    let y = if odd == 0 { p } else { p * 1.4142135623730951 };
+    let y = p * if odd == 0 { 1.0 } else { 1.4142135623730951 };
     (y + 4.0) + v * 0.9999999998 / y
 }
 
@@ -69,7 +69,7 @@ fn upper_half(t: f64) -> u64
     ensures { λ a. ⌜ a < 2 ^ 27 ⌝ }
 {
     if t < 8.0 {
-        return f64::to_bits(t) % HIDDEN / 0x200_0000;
+        return f64::to_bits(t) % HIDDEN_BIT / 0x200_0000;
     }
     0
 }
@@ -136,7 +136,7 @@ fn root_bits(b: u64) -> u64
     let m = p.m;
     let j = p.j;
     let q = whole_root(m << (j % 2));
-    (j / 2 + 485) * HIDDEN + (q + 1) / 2
+    (j / 2 + 485) * HIDDEN_BIT + (q + 1) / 2
 }
 
 pub fn sqrt(x: f64) -> f64
@@ -152,7 +152,7 @@ pub fn sqrt(x: f64) -> f64
         return x;
     }
     let b = f64::to_bits(x);
-    if b < INFINITY {
+    if b < INFINITY_BITS {
         return f64::from_bits(root_bits(b));
     }
     x
