@@ -7,9 +7,11 @@ pub mod cubic;
 pub mod density_iteration;
 pub mod evaluations;
 pub mod float;
+pub mod generate;
 pub mod jet;
 pub mod random;
 pub mod residual;
+pub mod show;
 pub mod state;
 pub mod vectors;
 

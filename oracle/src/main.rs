@@ -1,6 +1,8 @@
 //! The oracle as a program: answers requests, and makes and answers test input. README.md lists the subcommands.
 
 use oracle::float::bits;
+use oracle::generate::requests;
+use oracle::show::{show, Census};
 use oracle::vectors::{
     eval_cases, eval_record, jet_cases, jet_operation, words, EvalCase, JetCase, JET_RECORD,
 };
@@ -12,6 +14,9 @@ const USAGE: &str = "\
 usage: oracle                          answer one request on standard input
        oracle --trace                  the same, with every evaluation made
        oracle --batch                  answer requests until the end of input
+       oracle --show                   print requests in readable form until the end of input
+       oracle --generate SEED COUNT    requests in bytes
+       oracle --census SEED COUNT      the same requests, counted by kind and status
        oracle --jets SEED COUNT        jet operations with results, in words
        oracle --jets-bin SEED COUNT    the same operations in bytes
        oracle --jets-run               results of jet operations in bytes
@@ -77,6 +82,14 @@ fn batch(input: &mut impl Read, out: &mut impl Write) -> io::Result<()> {
     }
 }
 
+fn show_all(input: &mut impl Read, out: &mut impl Write) -> io::Result<()> {
+    let mut request = [0; REQUEST];
+    while read_full(input, &mut request)? == REQUEST {
+        write!(out, "{}", show(&request))?;
+    }
+    Ok(())
+}
+
 fn invalid(message: &str) -> io::Error {
     io::Error::new(io::ErrorKind::InvalidData, message)
 }
@@ -126,6 +139,7 @@ fn run(arguments: &[String]) -> io::Result<bool> {
         [] => single(&mut input, &mut out, false)?,
         ["--trace"] => single(&mut input, &mut out, true)?,
         ["--batch"] => batch(&mut input, &mut out)?,
+        ["--show"] => show_all(&mut input, &mut out)?,
         ["--jets-run"] => jets_run(&mut input, &mut out)?,
         ["--evals-run"] => evals_run(&mut input, &mut out)?,
         [command, seed, count] => {
@@ -134,6 +148,18 @@ fn run(arguments: &[String]) -> io::Result<bool> {
             };
             let count = count as usize;
             match command {
+                "--generate" => {
+                    for request in requests(seed, count) {
+                        out.write_all(&request)?;
+                    }
+                }
+                "--census" => {
+                    let mut census = Census::default();
+                    for (place, request) in requests(seed, count).enumerate() {
+                        census.count(place as u64, &request);
+                    }
+                    write!(out, "{census}")?;
+                }
                 "--jets" => {
                     for case in jet_cases(seed, count) {
                         writeln!(out, "{}", case.line())?;
