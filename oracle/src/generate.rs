@@ -197,6 +197,51 @@ fn extreme(rng: &mut Rng) -> Draft {
     draft
 }
 
+/// Far below the critical temperature, where searches go through one spinodal after the other.
+fn cold(rng: &mut Rng) -> Draft {
+    let mut draft = ordinary(rng);
+    if rng.once_in(2) {
+        draft.kind = rng.pick(&[1, 2]);
+        draft.choice = rng.below(3) as u64;
+    }
+    if rng.once_in(3) {
+        let i = rng.below(draft.n);
+        draft.blend.coefficients[i].acentric_factor = rng.between(-3.0, 3.0);
+    }
+    if rng.once_in(4) {
+        // percentages instead of fractions, and worse
+        let factor = rng.pick(&[100.0, 1000.0, 0.01, 1e6]);
+        draft.blend.fractions.iter_mut().for_each(|x| *x *= factor);
+    }
+    let seen = draft.seen();
+    draft.temperature = seen.tc * rng.log_between(1e-3, 0.6);
+    draft.pressure = pressure(rng, &seen, draft.temperature);
+    draft.start = start(rng, &seen, draft.temperature);
+    if rng.once_in(4) {
+        draft.pressure = seen.max_density * draft.temperature * rng.log_between(0.1, 1e4);
+    }
+    draft
+}
+
+/// So hot that a potential overflows where pressure and slope do not: for a narrow range of co-volumes and temperatures.
+fn hot(rng: &mut Rng) -> Draft {
+    let mut draft = ordinary(rng);
+    draft.kind = 2;
+    let covolume = rng.between(0.5, 30.0);
+    for record in &mut draft.blend.coefficients {
+        // kappa is exactly 0 here, so that the attraction does not depend on the temperature
+        record.acentric_factor = -0.23338349942403006;
+        record.pc = 0.0778 * record.tc / (covolume * PASCAL);
+    }
+    draft.temperature = rng.between(1.2e306, 1.77e306);
+    let seen = draft.seen();
+    let rho = seen.max_density * rng.log_between(1e-62, 1e-43);
+    // the search has to meet this pressure exactly
+    let (_, p, _) = seen.eos.p_dpdrho(draft.temperature, rho, &seen.x);
+    draft.pressure = if p.is_finite() { p } else { 1e300 };
+    draft
+}
+
 /// A number that no check of a positive quantity lets pass.
 fn bad(rng: &mut Rng) -> f64 {
     rng.pick(&[
@@ -362,6 +407,8 @@ pub fn request(rng: &mut Rng) -> [u8; REQUEST] {
     let theme = rng.below(100);
     let mut draft = match theme {
         0..=17 => extreme(rng),
+        18..=27 => cold(rng),
+        28 => hot(rng),
         _ => ordinary(rng),
     };
     fill_unused(rng, &mut draft);
