@@ -11,11 +11,41 @@ use crate::pairs::position;
 use crate::pairs::row;
 use crate::pairs::table;
 
+// `plus` and `minus` at the positions free of e1 and e2: those not above m are 0 to m, and no table is read.
+fn plus_e0(x: f64, a: &[f64; 16], b: &[f64; 16], m: usize) -> f64
+    requires { ⌜ m < 4 ⌝ }
+    ensures { λ r. ⌜ r ≡ foldl (λ s p. s ⊕ at (now (a .entry)) p ⊗ at (now (b .entry)) (m - p)) x (drop 1 (pairsOf m)) ⌝ }
+{
+    let mut s = x;
+    let mut p: usize = 1;
+    while p <= m {
+        s = s + a[p] * b[m - p];
+        p += 1;
+    }
+    s
+}
+
+fn minus_e0(x: f64, a: &[f64; 16], b: &[f64; 16], m: usize, first: usize) -> f64
+    requires { ⌜ m < 4 ⌝ }
+    ensures { λ r. ⌜ r ≡ less (λ p. at (now (a .entry)) p ⊗ at (now (b .entry)) (m - p)) x (drop first (before m)) ⌝ }
+{
+    let mut s = x;
+    let mut p = first;
+    while p < m {
+        s = s - a[p] * b[m - p];
+        p += 1;
+    }
+    s
+}
+
 // x plus a(p) * b(m - p) for each p not above m but the first, in turn.
 pub fn plus(x: f64, a: &[f64; 16], b: &[f64; 16], m: usize) -> f64
     requires { ⌜ m < positions ⌝ }
     ensures { λ r. ⌜ r ≡ foldl (λ s p. s ⊕ at (now (a .entry)) p ⊗ at (now (b .entry)) (m - p)) x (drop 1 (pairsOf m)) ⌝ }
 {
+    if m < 4 {
+        return plus_e0(x, a, b, m);
+    }
     let pairs = table();
     let start = row(m);
     let n = count(m);
@@ -34,6 +64,9 @@ pub fn minus(x: f64, a: &[f64; 16], b: &[f64; 16], m: usize, first: usize) -> f6
     requires { ⌜ m < positions ⌝ }
     ensures { λ r. ⌜ r ≡ less (λ p. at (now (a .entry)) p ⊗ at (now (b .entry)) (m - p)) x (drop first (before m)) ⌝ }
 {
+    if m < 4 {
+        return minus_e0(x, a, b, m, first);
+    }
     let pairs = table();
     let start = row(m);
     let n = count(m) - 1;

@@ -17,6 +17,12 @@ Inv-loop x a b m first pairs start n s₀ t₀ s t = foldl (subtracting a b m) s
 abbrev μ-loop : tie.MeasureT-loop
 μ-loop x a b m first pairs start n s₀ t₀ s t = n - t
 
+minus-e0-requires : tie.Need-minus-e0-requires Inv-loop μ-loop
+minus-e0-requires c κs = search needs
+
+returns : tie.Need-returns Inv-loop μ-loop
+returns c = c .minus-e0 .ensures
+
 table-requires : tie.Need-table-requires Inv-loop μ-loop
 table-requires c κs = search needs
 
@@ -27,7 +33,7 @@ count-requires : tie.Need-count-requires Inv-loop μ-loop
 count-requires c κs = search needs
 
 sub-n : tie.Need-sub-n Inv-loop μ-loop
-sub-n c = omega (arith, pairs-some (c .before .before .before .args .m))
+sub-n c = omega (arith, pairs-some (c .before .before .before .before .args .m))
 
 loop-holds : tie.Need-loop-holds Inv-loop μ-loop
 loop-holds c = refl
@@ -59,15 +65,15 @@ loop-less c = search needs
 loop-again : tie.Need-loop-again Inv-loop μ-loop
 loop-again c =
     let l = c .before .before .before .before .before in
-    let a = l .before .before .before .before .args in
+    let a = l .before .before .before .before .before .args in
     let h : l .loop .t < length (before (a .m)) = omega (arith, length-before (a .m)) in
     fold-turn (subtracting (a .a .now) (a .b .now) (a .m)) (before (a .m)) (l .loop .t) _ (l .loop .s) _ h (c .before .before .position .ensures .0 ∙ before-at (a .m) (l .loop .t) h) (l .loop .inv)
 
-returns : tie.Need-returns Inv-loop μ-loop
+returns-2 : tie.Need-returns-2 Inv-loop μ-loop
 unfolding less
-returns c =
+returns-2 c =
     let l = c .before in
-    let a = l .before .before .before .before .args in
+    let a = l .before .before .before .before .before .args in
     sym (fold-end (subtracting (a .a .now) (a .b .now) (a .m)) (before (a .m)) (l .loop .t) (l .loop .s) (omega (arith, length-before (a .m)))) ∙ l .loop .inv
 
 pub minus-spec : {M : Type 1} → statement M
@@ -76,6 +82,8 @@ minus-spec =
     (tie.spec
     Inv-loop
     μ-loop
+    minus-e0-requires
+    returns
     table-requires
     row-requires
     count-requires
@@ -90,4 +98,4 @@ minus-spec =
     add-t
     loop-less
     loop-again
-    returns)
+    returns-2)
