@@ -5,7 +5,7 @@ use Prim.Native.Nat.{ℕ, zero, suc, _<_}
 use native.Mathlib.Nat.{le-of-suc-le-suc, not-suc-le-zero, eq-or-lt-of-le}
 use mathlib.Core.Bool.{Bool, true, false, _&&_}
 use mathlib.Core.List.{List, [], _∷_, foldl}
-use lib.Dec.{T, eqb, eqb→eq}
+use lib.Dec.{T}
 use lib.ListN.{length, getD}
 use lib.Ieee.{Float}
 
@@ -27,7 +27,7 @@ pub fold-cong : (f g : Float → ℕ → Float) (l : List ℕ) (x y : Float) →
 fold-cong f g [] x y e none = e
 fold-cong f g (p ∷ l) x y e (more h r) = fold-cong f g l (f x p) (g y p) (ap (λ (z : Float). f z p) e ∙ h y) r
 
--- ---- tests that are computed: over each number below n, and of two lists
+-- ---- a test that is computed, over each number below n
 
 abbrev pub each : (ℕ → Bool) → ℕ → Bool
 each f zero = true
@@ -51,15 +51,3 @@ each-at f (suc n) t k h =
     (λ (e : k ≡ n). subst (λ (x : ℕ). T (f x)) (sym e) (both (f n) (each f n) t .0))
     (λ (l : k < n). each-at f n (both (f n) (each f n) t .1) k l)
     (eq-or-lt-of-le (le-of-suc-le-suc h))
-
-abbrev pub same : List ℕ → List ℕ → Bool
-same [] [] = true
-same [] (y ∷ ys) = false
-same (x ∷ xs) [] = false
-same (x ∷ xs) (y ∷ ys) = eqb x y && same xs ys
-
-pub same→eq : (xs ys : List ℕ) → T (same xs ys) → xs ≡ ys
-same→eq [] [] t = refl
-same→eq [] (y ∷ ys) t = absurd t
-same→eq (x ∷ xs) [] t = absurd t
-same→eq (x ∷ xs) (y ∷ ys) t = let h = both (eqb x y) (same xs ys) t in rw (eqb→eq x y (h .0), same→eq xs ys (h .1))

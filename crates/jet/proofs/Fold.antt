@@ -3,14 +3,17 @@ use mathlib.Core.Path.{_≡_, refl, sym, ap, _∙_}
 use Prim.Native.Nat.{ℕ, suc, _+_, _-_, _≤_, _<_}
 use native.Mathlib.Omega.{arith}
 use native.Mathlib.Numerals.{add-one}
+use mathlib.Core.Bool.{Bool, _&&_}
 use mathlib.Core.List.{List, [], _∷_, _++_, foldl}
 use lib.ListN.{length, getD, drop, length-append, drop-of-length-le, List·getD-append}
 use lib.Seq.{drop-cons}
+use lib.Dec.{T, eqb, eqb→eq}
 use lib.Ieee.{Float}
 use Rattle.float.specs.Ops.{_⊕_, _⊖_, _⊗_}
-use Rattle.jet.specs.Positions.{pairsOf, before}
+use Rattle.jet.specs.Positions.{notAbove, among, pairsOf, before}
 use Rattle.jet.specs.Coefficients.{at}
 use Rattle.jet.proofs.Among.{pairs-split}
+use Rattle.jet.proofs.Every.{each, each-at, both}
 
 -- s with the term of p more, or less
 abbrev pub adding : List Float → List Float → ℕ → Float → ℕ → Float
@@ -37,3 +40,18 @@ before-at m t h = rw (pairs-split m) (List·getD-append (before m) (m ∷ []) 0 
 
 pub pairs-some : (m : ℕ) → 1 ≤ length (pairsOf m)
 pairs-some m = rw (pairs-split m, length-append) (omega arith)
+
+-- the positions not above one that is free of e1 and e2 are 0 to it: one computed test
+low : ℕ → Bool
+low m = eqb (length (pairsOf m)) (m + 1) && each (λ p. eqb (getD (pairsOf m) p 0) p) (m + 1)
+
+module _ (m : ℕ) (h : m < 4) where
+  low-holds : T (eqb (length (pairsOf m)) (m + 1)) × T (each (λ p. eqb (getD (pairsOf m) p 0) p) (m + 1))
+  unfolding low pairsOf among notAbove
+  low-holds = both (eqb (length (pairsOf m)) (m + 1)) (each (λ p. eqb (getD (pairsOf m) p 0) p) (m + 1)) (each-at low 4 tt m h)
+
+  pub low-length : length (pairsOf m) ≡ m + 1
+  low-length = eqb→eq _ _ (low-holds .0)
+
+  pub low-at : (p : ℕ) → p < m + 1 → p ≡ getD (pairsOf m) p 0
+  low-at p k = sym (eqb→eq _ _ (each-at (λ p. eqb (getD (pairsOf m) p 0) p) (m + 1) (low-holds .1) p k))

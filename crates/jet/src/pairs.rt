@@ -1,9 +1,9 @@
 // The pairs of positions p, m with p not above m in any mark, in a constant table.
-// Only this file knows the table: the operations go by `count` and `position`.
+// Only this file knows the table: the sums go by `table`, `row`, `count` and `position`.
 ghost use mathlib.Core.Path.{_≡_};
 ghost use Prim.Native.Nat.{_≤_, _<_};
 ghost use lib.ListN.{length, getD};
-ghost use Rattle.jet.specs.Positions.{positions, pairsOf, weightOf};
+ghost use Rattle.jet.specs.Positions.{positions, pairsOf, tableOf};
 
 // The ninety pairs, each as p + 16 * m, ascending.
 const PAIRS: [u8; 90] = [
@@ -100,7 +100,7 @@ const PAIRS: [u8; 90] = [
 ];
 
 // Where the pairs of each m begin, and the end of the table.
-const ROWS: [usize; 17] = [
+const ROWS: [u8; 17] = [
     0,
     1,
     3,
@@ -120,18 +120,34 @@ const ROWS: [usize; 17] = [
     90,
 ];
 
+// The table. Compiled code writes a constant array to the stack wherever it is read, so a sum takes the table once,
+// before its loop.
+pub fn table() -> [u8; 90]
+    ensures { λ r. ⌜ r ≡ tableOf positions ⌝ }
+{
+    PAIRS
+}
+
+// Where the pairs of m begin.
+pub fn row(m: usize) -> usize
+    requires { ⌜ m ≤ positions ⌝ }
+    ensures { λ r. ⌜ r ≡ length (tableOf m) ⌝ }
+{
+    ROWS[m] as usize
+}
+
 // How many positions are not above m.
 pub fn count(m: usize) -> usize
     requires { ⌜ m < positions ⌝ }
     ensures { λ r. ⌜ r ≡ length (pairsOf m) ⌝ }
 {
-    ROWS[m + 1] - ROWS[m]
+    row(m + 1) - row(m)
 }
 
-// The t-th of the positions not above m.
-pub fn position(m: usize, t: usize) -> usize
-    requires { ⌜ (m < positions) × (t < length (pairsOf m)) ⌝ }
+// The t-th of the positions not above m, whose pairs begin at `start` of the table.
+pub fn position(table: &[u8; 90], start: usize, m: usize, t: usize) -> usize
+    requires { ⌜ (m < positions) × (t < length (pairsOf m)) × (start ≡ length (tableOf m)) × (now table ≡ tableOf positions) ⌝ }
     ensures { λ r. ⌜ (r ≡ getD (pairsOf m) t 0) × (r ≤ m) ⌝ }
 {
-    (PAIRS[ROWS[m] + t] % 16) as usize
+    table[start + t] as usize - 16 * m
 }

@@ -2,12 +2,14 @@
 use mathlib.Core.Path.{refl}
 use lib.Ieee.{ofBits, ofInt, neg, size, round, add, sub, mul, div, le}
 use Rattle.float.specs.Above.{above}
-use Rattle.float.specs.Root.{isqrtIn, isqrt, sticky, rootOf, root}
+use Rattle.float.specs.Root.{isqrtIn, isqrt, sticky, rootOf as floatRootOf, root}
 use Rattle.float.specs.Ln.{oddRecip, horner, series, reducedLn, lnAt, lnUnits, lnOf}
-use Rattle.near_cases.specs.NearCases.{FloatCases, NearCases}
+use Rattle.jet.specs.Positions.{notAbove, among, pairsOf, before, between, weightOf}
+use Rattle.jet.specs.Coefficients.{build, numberOf, markedOf, less, quotientAt, quotientOf, recipOf, rootAt, rootOf, logarithmAt, logarithmOf}
+use Rattle.near_cases.specs.NearCases.{FloatCases, JetCases, NearCases}
 
 float-cases : FloatCases
-unfolding root rootOf sticky isqrt isqrtIn lnOf lnUnits lnAt reducedLn series horner oddRecip above ofBits ofInt neg size round add sub mul div le
+unfolding root floatRootOf sticky isqrt isqrtIn lnOf lnUnits lnAt reducedLn series horner oddRecip above ofBits ofInt neg size round add sub mul div le
 float-cases = record {
   ln-of-1 = refl;
   ln-of-2 = refl;
@@ -17,5 +19,13 @@ float-cases = record {
   root-of-minus-0 = refl;
 }
 
+jet-cases : JetCases
+unfolding root floatRootOf sticky isqrt isqrtIn lnOf lnUnits lnAt reducedLn series horner oddRecip above ofBits ofInt neg size round add sub mul div le notAbove among pairsOf before between weightOf build numberOf markedOf less quotientAt quotientOf recipOf rootAt rootOf logarithmAt logarithmOf
+jet-cases = record {
+  recip-of-1-plus-e0 = refl;
+  root-of-1-plus-e0 = refl;
+  ln-of-1-plus-e0 = refl;
+}
+
 pub near-cases : NearCases
-near-cases = record { floats = float-cases }
+near-cases = record { floats = float-cases; jets = jet-cases }

@@ -1,11 +1,16 @@
 -- Document 01's near cases that are marked M, as one list: a record for each layer, and `NearCases` of all. They speak of the definitions.
+use Prim.Native.Nat.{_-_}
 use mathlib.Core.Path.{_≡_}
 use mathlib.Core.Bool.{false}
+use mathlib.Core.List.{List, _∷_}
+use lib.ListN.{replicate}
 use lib.IntN.{ℤ, pos, negsuc}
-use lib.Ieee.{Float, fin, neg}
+use lib.Ieee.{Float, fin, neg, binary64, ofBits}
 use Rattle.float.specs.Ops.{f0, f1, f2}
 use Rattle.float.specs.Root.{root}
 use Rattle.float.specs.Ln.{ln2, lnOf}
+use Rattle.jet.specs.Positions.{positions}
+use Rattle.jet.specs.Coefficients.{markedOf, recipOf, rootOf, logarithmOf}
 
 -- 2^e, where `negsuc k` is −(k + 1)
 abbrev pub twoTo : ℤ → Float
@@ -20,6 +25,21 @@ pub record FloatCases : Type 0 where
   pub root-of-smallest : root (twoTo (negsuc 1073)) ≡ twoTo (negsuc 536)
   pub root-of-minus-0 : root (neg f0) ≡ neg f0
 
+-- 1 + e0, and the jet whose coefficients of 1, e0, e0² and e0³ are these and whose others are +0
+abbrev pub one-plus-e0 : List Float
+one-plus-e0 = markedOf 1 f1
+
+abbrev pub in-e0 : Float → Float → Float → Float → List Float
+in-e0 a b c d = a ∷ b ∷ c ∷ d ∷ replicate (positions - 4) f0
+
+-- "1/(1+e0): 1, −1, 1, −1. Root of 1+e0: 1, 0.5, −0.125, 0.0625. Its logarithm: 0, 1, −0.5, then bits 3FD5555555555555."
+-- Each is said of the whole jet.
+pub record JetCases : Type 0 where
+  pub recip-of-1-plus-e0 : recipOf one-plus-e0 ≡ in-e0 f1 (neg f1) f1 (neg f1)
+  pub root-of-1-plus-e0 : rootOf one-plus-e0 ≡ in-e0 f1 (twoTo (negsuc 0)) (neg (twoTo (negsuc 2))) (twoTo (negsuc 3))
+  pub ln-of-1-plus-e0 : logarithmOf one-plus-e0 ≡ in-e0 f0 f1 (neg (twoTo (negsuc 0))) (ofBits binary64 0x3FD5555555555555)
+
 -- A layer above adds its record here.
 pub record NearCases : Type 0 where
   pub floats : FloatCases
+  pub jets : JetCases

@@ -12,16 +12,28 @@ use Rattle.jet.proofs.terms.minus.Statement.{statement}
 use Rattle.jet.proofs.terms.minus.Tie as tie
 
 abbrev Inv-loop : tie.InvT-loop
-Inv-loop x a b m first n s₀ t₀ s t = foldl (subtracting a b m) s (drop t (before m)) ≡ foldl (subtracting a b m) x (drop first (before m))
+Inv-loop x a b m first pairs start n s₀ t₀ s t = foldl (subtracting a b m) s (drop t (before m)) ≡ foldl (subtracting a b m) x (drop first (before m))
 
 abbrev μ-loop : tie.MeasureT-loop
-μ-loop x a b m first n s₀ t₀ s t = n - t
+μ-loop x a b m first pairs start n s₀ t₀ s t = n - t
+
+minus-e0-requires : tie.Need-minus-e0-requires Inv-loop μ-loop
+minus-e0-requires c κs = search needs
+
+returns : tie.Need-returns Inv-loop μ-loop
+returns c = c .minus-e0 .ensures
+
+table-requires : tie.Need-table-requires Inv-loop μ-loop
+table-requires c κs = search needs
+
+row-requires : tie.Need-row-requires Inv-loop μ-loop
+row-requires c κs = search needs
 
 count-requires : tie.Need-count-requires Inv-loop μ-loop
 count-requires c κs = search needs
 
 sub-n : tie.Need-sub-n Inv-loop μ-loop
-sub-n c = omega (arith, pairs-some (c .before .args .m))
+sub-n c = omega (arith, pairs-some (c .before .before .before .before .args .m))
 
 loop-holds : tie.Need-loop-holds Inv-loop μ-loop
 loop-holds c = refl
@@ -52,16 +64,16 @@ loop-less c = search needs
 
 loop-again : tie.Need-loop-again Inv-loop μ-loop
 loop-again c =
-    let l = c .before .before .before .before in
-    let a = l .before .before .args in
+    let l = c .before .before .before .before .before in
+    let a = l .before .before .before .before .before .args in
     let h : l .loop .t < length (before (a .m)) = omega (arith, length-before (a .m)) in
     fold-turn (subtracting (a .a .now) (a .b .now) (a .m)) (before (a .m)) (l .loop .t) _ (l .loop .s) _ h (c .before .before .position .ensures .0 ∙ before-at (a .m) (l .loop .t) h) (l .loop .inv)
 
-returns : tie.Need-returns Inv-loop μ-loop
+returns-2 : tie.Need-returns-2 Inv-loop μ-loop
 unfolding less
-returns c =
+returns-2 c =
     let l = c .before in
-    let a = l .before .before .args in
+    let a = l .before .before .before .before .before .args in
     sym (fold-end (subtracting (a .a .now) (a .b .now) (a .m)) (before (a .m)) (l .loop .t) (l .loop .s) (omega (arith, length-before (a .m)))) ∙ l .loop .inv
 
 pub minus-spec : {M : Type 1} → statement M
@@ -70,6 +82,10 @@ minus-spec =
     (tie.spec
     Inv-loop
     μ-loop
+    minus-e0-requires
+    returns
+    table-requires
+    row-requires
     count-requires
     sub-n
     loop-holds
@@ -82,4 +98,4 @@ minus-spec =
     add-t
     loop-less
     loop-again
-    returns)
+    returns-2)

@@ -11,10 +11,22 @@ use Rattle.jet.proofs.terms.plus.Statement.{statement}
 use Rattle.jet.proofs.terms.plus.Tie as tie
 
 abbrev Inv-loop : tie.InvT-loop
-Inv-loop x a b m n s₀ t₀ s t = foldl (adding a b m) s (drop t (pairsOf m)) ≡ foldl (adding a b m) x (drop 1 (pairsOf m))
+Inv-loop x a b m pairs start n s₀ t₀ s t = foldl (adding a b m) s (drop t (pairsOf m)) ≡ foldl (adding a b m) x (drop 1 (pairsOf m))
 
 abbrev μ-loop : tie.MeasureT-loop
-μ-loop x a b m n s₀ t₀ s t = n - t
+μ-loop x a b m pairs start n s₀ t₀ s t = n - t
+
+plus-e0-requires : tie.Need-plus-e0-requires Inv-loop μ-loop
+plus-e0-requires c κs = search needs
+
+returns : tie.Need-returns Inv-loop μ-loop
+returns c = c .plus-e0 .ensures
+
+table-requires : tie.Need-table-requires Inv-loop μ-loop
+table-requires c κs = search needs
+
+row-requires : tie.Need-row-requires Inv-loop μ-loop
+row-requires c κs = search needs
 
 count-requires : tie.Need-count-requires Inv-loop μ-loop
 count-requires c κs = search needs
@@ -48,14 +60,14 @@ loop-less c = search needs
 
 loop-again : tie.Need-loop-again Inv-loop μ-loop
 loop-again c =
-    let l = c .before .before .before .before in
-    let a = l .before .before .args in
+    let l = c .before .before .before .before .before in
+    let a = l .before .before .before .before .before .args in
     fold-turn (adding (a .a .now) (a .b .now) (a .m)) (pairsOf (a .m)) (l .loop .t) _ (l .loop .s) _ (omega arith) (c .before .before .position .ensures .0) (l .loop .inv)
 
-returns : tie.Need-returns Inv-loop μ-loop
-returns c =
+returns-2 : tie.Need-returns-2 Inv-loop μ-loop
+returns-2 c =
     let l = c .before in
-    let a = l .before .before .args in
+    let a = l .before .before .before .before .before .args in
     sym (fold-end (adding (a .a .now) (a .b .now) (a .m)) (pairsOf (a .m)) (l .loop .t) (l .loop .s) (omega arith)) ∙ l .loop .inv
 
 pub plus-spec : {M : Type 1} → statement M
@@ -64,6 +76,10 @@ plus-spec =
     (tie.spec
     Inv-loop
     μ-loop
+    plus-e0-requires
+    returns
+    table-requires
+    row-requires
     count-requires
     loop-holds
     position-requires
@@ -75,4 +91,4 @@ plus-spec =
     add-t
     loop-less
     loop-again
-    returns)
+    returns-2)

@@ -1,0 +1,112 @@
+//! Document 01's stand-ins on plain floats: logarithm, `max`, `min`, sign tests, norm and the 2 by 2 solve.
+//! All NaNs count as one value, so a NaN's sign is never looked at.
+
+/// The one NaN as it is printed.
+pub const NAN_BITS: u64 = 0x7FF8_0000_0000_0000;
+
+/// The bits of a float, with one pattern for every NaN.
+pub fn bits(x: f64) -> u64 {
+    if x.is_nan() {
+        NAN_BITS
+    } else {
+        x.to_bits()
+    }
+}
+
+/// `max` gives the second number if the first is NaN or smaller, else the first.
+pub fn max(first: f64, second: f64) -> f64 {
+    if first.is_nan() || first < second {
+        second
+    } else {
+        first
+    }
+}
+
+/// `min` mirrors `max`.
+pub fn min(first: f64, second: f64) -> f64 {
+    if first.is_nan() || first > second {
+        second
+    } else {
+        first
+    }
+}
+
+/// The Rust's `is_sign_negative`; the one NaN counts as without a sign.
+pub fn is_sign_negative(x: f64) -> bool {
+    !x.is_nan() && x.is_sign_negative()
+}
+
+/// The Rust's `is_sign_positive`.
+pub fn is_sign_positive(x: f64) -> bool {
+    !is_sign_negative(x)
+}
+
+/// Logarithm of x = M * 2^E with M in [1, 2): halved M above the root of 2, then the series of (M - 1)/(M + 1).
+pub fn ln(x: f64) -> f64 {
+    if x.is_nan() {
+        return x;
+    }
+    if x == 0.0 {
+        return f64::NEG_INFINITY;
+    }
+    if x < 0.0 {
+        return f64::NAN;
+    }
+    if x == f64::INFINITY {
+        return x;
+    }
+    let (mut m, mut e) = mantissa_exponent(x);
+    if m >= f64::from_bits(0x3FF6_A09E_667F_3BCD) {
+        m *= 0.5;
+        e += 1;
+    }
+    let s = (m - 1.0) / (m + 1.0);
+    let z = s * s;
+    let mut h = 1.0 / 21.0;
+    for k in (0..=9).rev() {
+        h = h * z + 1.0 / f64::from(2 * k + 1);
+    }
+    let l = f64::from_bits(0x3FE6_2E42_FEFA_39EF);
+    f64::from(e) * l + (2.0 * s) * h
+}
+
+/// M in [1, 2) and E with x = M * 2^E, for a finite positive x.
+fn mantissa_exponent(x: f64) -> (f64, i32) {
+    // A subnormal times 2^54 is exact and normal.
+    let (x, shift) = if x < f64::MIN_POSITIVE {
+        (x * 18014398509481984.0, 54)
+    } else {
+        (x, 0)
+    };
+    let exponent = (x.to_bits() >> 52) as i32 - 1023;
+    let fraction = x.to_bits() & 0x000F_FFFF_FFFF_FFFF;
+    (
+        f64::from_bits(0x3FF0_0000_0000_0000 | fraction),
+        exponent - shift,
+    )
+}
+
+/// Root of the sum of squares.
+pub fn norm(x: [f64; 2]) -> f64 {
+    (x[0] * x[0] + x[1] * x[1]).sqrt()
+}
+
+/// Solves m * x = r. The lower row comes up if its first entry is larger in size; `None` for a zero pivot.
+pub fn solve(m: [[f64; 2]; 2], r: [f64; 2]) -> Option<[f64; 2]> {
+    let (m, r) = if m[1][0].abs() > m[0][0].abs() {
+        ([m[1], m[0]], [r[1], r[0]])
+    } else {
+        (m, r)
+    };
+    if m[0][0] == 0.0 {
+        return None;
+    }
+    let f = m[1][0] / m[0][0];
+    let pivot = m[1][1] - f * m[0][1];
+    if pivot == 0.0 {
+        return None;
+    }
+    let x1 = (r[1] - f * r[0]) / pivot;
+    let x0 = (r[0] - m[0][1] * x1) / m[0][0];
+    Some([x0, x1])
+}

@@ -1,0 +1,445 @@
+//! Random requests from a seed: real blends in ordinary and odd states, damaged blocks, and extremes of the range.
+
+use crate::block::{lengths, BLOCK, REQUEST};
+use crate::cubic::PengRobinson;
+use crate::density_iteration::{_pressure_spinodal, _pressure_spinodal_branch};
+use crate::evaluations::Evaluations;
+use crate::random::{blend, Blend, Rng};
+use crate::state::DensityInitialization::{Liquid, Vapor};
+
+/// One Pascal in K per cubic angstrom.
+const PASCAL: f64 = 1.0 / 13806490.0;
+
+/// A request before it is written into bytes.
+#[derive(Clone, Debug)]
+pub struct Draft {
+    pub kind: u8,
+    pub n: usize,
+    pub blend: Blend,
+    pub choice: u64,
+    pub temperature: f64,
+    pub pressure: f64,
+    pub start: f64,
+}
+
+/// What the search will see: the blend, or in kinds 5 and 6 the chosen component.
+struct Seen {
+    eos: PengRobinson,
+    x: Vec<f64>,
+    max_density: f64,
+    /// mean of the critical temperatures
+    tc: f64,
+}
+
+impl Draft {
+    fn seen(&self) -> Seen {
+        let eos = PengRobinson::new(&self.blend.coefficients, &self.blend.interactions);
+        let (eos, x) = if self.kind >= 5 {
+            (eos.subset(self.choice as usize % self.n), vec![1.0])
+        } else {
+            (eos, self.blend.fractions.clone())
+        };
+        let max_density = eos.compute_max_density(&x);
+        let tc = x.iter().zip(&eos.tc).map(|(x, tc)| x * tc).sum();
+        Seen {
+            eos,
+            x,
+            max_density,
+            tc,
+        }
+    }
+
+    fn uses_pressure(&self) -> bool {
+        self.kind == 1 || self.kind == 2
+    }
+
+    fn uses_start(&self) -> bool {
+        self.kind == 3 || self.kind == 5 || (self.kind == 1 && self.choice == 2)
+    }
+
+    fn uses_choice(&self) -> bool {
+        matches!(self.kind, 1 | 4 | 5 | 6)
+    }
+}
+
+fn temperature(rng: &mut Rng, seen: &Seen) -> f64 {
+    match rng.below(8) {
+        0 => seen.tc * rng.between(0.98, 1.02),
+        1 => seen.tc * rng.between(0.05, 0.5),
+        2 | 3 => seen.tc * rng.between(0.4, 1.0),
+        4 => seen.tc * rng.between(1.0, 2.0),
+        _ => rng.between(50.0, 900.0),
+    }
+}
+
+/// A density on the spinodal that a search from a random start or of a branch finds.
+fn on_spinodal(rng: &mut Rng, seen: &Seen, t: f64) -> Option<(f64, f64)> {
+    let mut evals = Evaluations::default();
+    let found = match rng.below(3) {
+        0 => _pressure_spinodal_branch(&seen.eos, t, &seen.x, Vapor, &mut evals),
+        1 => _pressure_spinodal_branch(&seen.eos, t, &seen.x, Liquid, &mut evals),
+        _ => {
+            let start = seen.max_density * rng.unit();
+            _pressure_spinodal(&seen.eos, t, start, &seen.x, &mut evals).map(|(p, rho, _)| (p, rho))
+        }
+    };
+    found.ok()
+}
+
+fn pressure(rng: &mut Rng, seen: &Seen, t: f64) -> f64 {
+    let limit = seen.max_density * t;
+    match rng.below(16) {
+        0 => 0.0,
+        1 => -0.0,
+        2 => -rng.log_between(1.0, 1e9) * PASCAL,
+        // where the stable search stops looking for a vapour
+        3 => limit,
+        4 => limit * rng.between(0.9, 1.5),
+        // at and around a spinodal's pressure
+        5 | 6 => match on_spinodal(rng, seen, t) {
+            Some((p, _)) => p * rng.pick(&[1.0, 0.999, 1.001, 0.9, 1.1]),
+            None => rng.between(0.0, 1.0) * limit,
+        },
+        7 => rng.log_between(1e8, 1e12) * PASCAL,
+        8 => rng.log_between(1e-6, 1.0) * PASCAL,
+        9 => rng.pick(&[5e-324, 1e-300, 1e300, f64::MAX, f64::MIN, 1e100]),
+        _ => rng.log_between(1e2, 1e8) * PASCAL,
+    }
+}
+
+fn start(rng: &mut Rng, seen: &Seen, t: f64) -> f64 {
+    let max = seen.max_density;
+    match rng.below(20) {
+        0 => 0.0,
+        1 => -0.0,
+        2 => -max * rng.unit(),
+        3 => max,
+        4 => max * rng.pick(&[0.15, 0.85, 0.3, 0.9, 0.05, 0.001, 1e-4, 1.0 / 1.1]),
+        // at and beyond the packing limit 1/b
+        5 => max * rng.between(1.0, 1.2),
+        6 => max * rng.between(1.11, 4.0),
+        7 => rng.pick(&[5e-324, 1e-320, 1e-300, 1e-200, 1e-30]),
+        8 => rng.pick(&[1e10, 1e100, 1e300, f64::MAX, f64::MIN]),
+        9..=11 => match on_spinodal(rng, seen, t) {
+            Some((_, rho)) => rho * rng.pick(&[1.0, 1.0, 0.99, 1.01, 0.9, 1.1]),
+            None => max * rng.unit(),
+        },
+        12 => max * rng.log_between(1e-9, 1.0),
+        _ => max * rng.unit(),
+    }
+}
+
+/// A blend in a state that the equation of state is made for, or in an odd one.
+fn ordinary(rng: &mut Rng) -> Draft {
+    let n = match rng.below(3) {
+        0 => 1,
+        1 => 1 + rng.below(3),
+        _ => 1 + rng.below(8),
+    };
+    let kind = 1 + rng.below(6) as u8;
+    let mut draft = Draft {
+        kind,
+        n,
+        blend: blend(rng, n),
+        choice: 0,
+        temperature: 0.0,
+        pressure: 0.0,
+        start: 0.0,
+    };
+    draft.choice = match kind {
+        1 => rng.below(3) as u64,
+        4 => rng.below(2) as u64,
+        _ => rng.below(n) as u64,
+    };
+    let seen = draft.seen();
+    draft.temperature = temperature(rng, &seen);
+    draft.pressure = pressure(rng, &seen, draft.temperature);
+    draft.start = start(rng, &seen, draft.temperature);
+    if kind == 5 {
+        if rng.once_in(2) {
+            draft.temperature = 0.0;
+        }
+        if rng.once_in(2) {
+            draft.start = 0.0;
+        }
+    }
+    draft
+}
+
+/// Numbers far from any fluid, as far as the data checks let them pass and beyond.
+fn extreme(rng: &mut Rng) -> Draft {
+    let mut draft = ordinary(rng);
+    for _ in 0..1 + rng.below(3) {
+        let i = rng.below(draft.n);
+        let record = &mut draft.blend.coefficients[i];
+        match rng.below(12) {
+            0 => record.tc = rng.log_between(1e-150, 1e150),
+            1 => record.pc = rng.log_between(1e-290, 1e290),
+            2 => record.tc = rng.log_between(1e-3, 1e6),
+            3 => record.pc = rng.log_between(1e-3, 1e15),
+            4 => record.acentric_factor = rng.between(-20.0, 20.0),
+            5 => record.acentric_factor = rng.any_finite(),
+            6 => draft.temperature = rng.log_between(1e-308, 1e308),
+            7 => draft.temperature = rng.log_between(1e-3, 1e6),
+            8 => {
+                let factor = rng.log_between(1e-300, 1e300);
+                draft.blend.fractions.iter_mut().for_each(|x| *x *= factor);
+            }
+            9 => draft.pressure = rng.any_finite(),
+            10 => draft.start = rng.any_finite(),
+            _ => {
+                for k in &mut draft.blend.interactions {
+                    *k = rng.pick(&[1.0, 2.0, -1.0, 1e3, -1e300, 1e300]);
+                }
+            }
+        }
+    }
+    draft
+}
+
+/// Far below the critical temperature, where searches go through one spinodal after the other.
+fn cold(rng: &mut Rng) -> Draft {
+    let mut draft = ordinary(rng);
+    if rng.once_in(2) {
+        draft.kind = rng.pick(&[1, 2]);
+        draft.choice = rng.below(3) as u64;
+    }
+    if rng.once_in(3) {
+        let i = rng.below(draft.n);
+        draft.blend.coefficients[i].acentric_factor = rng.between(-3.0, 3.0);
+    }
+    if rng.once_in(4) {
+        // percentages instead of fractions, and worse
+        let factor = rng.pick(&[100.0, 1000.0, 0.01, 1e6]);
+        draft.blend.fractions.iter_mut().for_each(|x| *x *= factor);
+    }
+    let seen = draft.seen();
+    draft.temperature = seen.tc * rng.log_between(1e-3, 0.6);
+    draft.pressure = pressure(rng, &seen, draft.temperature);
+    draft.start = start(rng, &seen, draft.temperature);
+    if rng.once_in(4) {
+        draft.pressure = seen.max_density * draft.temperature * rng.log_between(0.1, 1e4);
+    }
+    draft
+}
+
+/// So hot that a potential overflows where pressure and slope do not: for a narrow range of co-volumes and temperatures.
+fn hot(rng: &mut Rng) -> Draft {
+    let mut draft = ordinary(rng);
+    draft.kind = 2;
+    let covolume = rng.between(0.5, 30.0);
+    for record in &mut draft.blend.coefficients {
+        // kappa is exactly 0 here, so that the attraction does not depend on the temperature
+        record.acentric_factor = -0.23338349942403006;
+        record.pc = 0.0778 * record.tc / (covolume * PASCAL);
+    }
+    draft.temperature = rng.between(1.2e306, 1.77e306);
+    let seen = draft.seen();
+    let rho = seen.max_density * rng.log_between(1e-62, 1e-43);
+    // the search has to meet this pressure exactly
+    let (_, p, _) = seen.eos.p_dpdrho(draft.temperature, rho, &seen.x);
+    draft.pressure = if p.is_finite() { p } else { 1e300 };
+    draft
+}
+
+/// A number that no check of a positive quantity lets pass.
+fn bad(rng: &mut Rng) -> f64 {
+    rng.pick(&[
+        0.0,
+        -0.0,
+        -1.0,
+        f64::NAN,
+        f64::INFINITY,
+        f64::NEG_INFINITY,
+        -5e-324,
+        f64::from_bits(0xFFF8_0000_0000_0001),
+        f64::from_bits(0x7FF0_0000_0000_0001),
+    ])
+}
+
+/// Puts a fault for the refusal into the draft; 11 is put into the bytes.
+fn damage(rng: &mut Rng, draft: &mut Draft, refusal: u8) {
+    let i = rng.below(draft.n);
+    match refusal {
+        12 => {
+            let record = &mut draft.blend.coefficients[i];
+            match rng.below(7) {
+                0 | 1 => record.tc = bad(rng),
+                2 | 3 => record.pc = bad(rng),
+                4 => record.acentric_factor = rng.pick(&[f64::NAN, f64::INFINITY, 1e160, -1e200]),
+                // a or b of 0 or infinite
+                5 => record.tc = rng.pick(&[5e-324, 1e-200, 1e200, f64::MAX]),
+                _ => record.pc = rng.pick(&[5e-324, 1e-305, f64::MAX]),
+            }
+        }
+        13 if !draft.blend.interactions.is_empty() => {
+            let i = rng.below(draft.blend.interactions.len());
+            draft.blend.interactions[i] = rng.pick(&[f64::NAN, f64::INFINITY, f64::NEG_INFINITY]);
+        }
+        14 => {
+            draft.blend.fractions[i] = rng.pick(&[
+                -0.0,
+                -0.1,
+                -5e-324,
+                f64::NAN,
+                f64::INFINITY,
+                f64::NEG_INFINITY,
+            ]);
+        }
+        15 => match rng.below(4) {
+            0 if draft.uses_pressure() => draft.pressure = rng.pick(&[f64::NAN, f64::INFINITY]),
+            1 if draft.uses_start() => draft.start = rng.pick(&[f64::NAN, f64::NEG_INFINITY]),
+            _ => draft.temperature = bad(rng),
+        },
+        16 => match rng.below(4) {
+            0 => draft.blend.fractions.fill(0.0),
+            1 => draft.blend.fractions.fill(f64::MAX),
+            _ => {
+                let limit = match draft.kind {
+                    1 => 3,
+                    4 => 2,
+                    _ => draft.n as u64,
+                };
+                let far = rng.bits();
+                draft.choice = rng.pick(&[limit, limit + 1, 1 << 32, 1 << 63, u64::MAX, far]);
+            }
+        },
+        _ => {}
+    }
+}
+
+/// Fills what the kind does not read with anything.
+fn fill_unused(rng: &mut Rng, draft: &mut Draft) {
+    if !draft.uses_choice() && rng.once_in(2) {
+        draft.choice = rng.bits();
+    }
+    if !draft.uses_pressure() && rng.once_in(2) {
+        draft.pressure = f64::from_bits(rng.bits());
+    }
+    if !draft.uses_start() && rng.once_in(2) {
+        draft.start = rng.pick(&[f64::NAN, f64::INFINITY, -1.0, 0.0]);
+    }
+    if draft.kind >= 5 && rng.once_in(3) {
+        for x in &mut draft.blend.fractions {
+            *x = f64::from_bits(rng.bits());
+        }
+    }
+}
+
+impl Draft {
+    /// The bytes, parts at random distances, anything between them.
+    pub fn to_bytes(&self, rng: &mut Rng) -> [u8; REQUEST] {
+        let mut request = [0; REQUEST];
+        (request[0], request[1]) = (self.kind, self.n as u8);
+        let block = &mut request[2..];
+        if rng.once_in(2) {
+            block.fill_with(|| rng.bits() as u8);
+        }
+        let mut spare = BLOCK - 16 - lengths(self.n).iter().sum::<usize>();
+        let mut at = 16;
+        let words: [Vec<u64>; 4] = [
+            self.blend
+                .coefficients
+                .iter()
+                .flat_map(|r| [r.tc, r.pc, r.acentric_factor].map(f64::to_bits))
+                .collect(),
+            self.blend
+                .interactions
+                .iter()
+                .map(|k| k.to_bits())
+                .collect(),
+            self.blend.fractions.iter().map(|x| x.to_bits()).collect(),
+            vec![
+                self.choice,
+                self.temperature.to_bits(),
+                self.pressure.to_bits(),
+                self.start.to_bits(),
+            ],
+        ];
+        let shape = rng.below(4);
+        for (i, part) in words.iter().enumerate() {
+            let gap = match shape {
+                // packed, at the end, or spread
+                0 | 1 => 0,
+                2 if i == 3 => spare,
+                2 => 0,
+                _ => rng.below(spare + 1),
+            };
+            spare -= gap;
+            at += gap;
+            block[4 * i..4 * i + 2].copy_from_slice(&(at as u16).to_le_bytes());
+            block[4 * i + 2..4 * i + 4].copy_from_slice(&(8 * part.len() as u16).to_le_bytes());
+            for word in part {
+                block[at..at + 8].copy_from_slice(&word.to_le_bytes());
+                at += 8;
+            }
+        }
+        request
+    }
+}
+
+/// Spoils one of the pairs.
+fn damage_pairs(rng: &mut Rng, request: &mut [u8; REQUEST]) {
+    let pair = rng.below(4);
+    let number = rng.below(2);
+    let at = 2 + 4 * pair + 2 * number;
+    let old = u16::from_le_bytes([request[at], request[at + 1]]);
+    let new = match rng.below(6) {
+        0 => old.wrapping_add(1),
+        1 => old.wrapping_sub(1),
+        2 => old.wrapping_add(8),
+        3 => rng.pick(&[0, 15, 16, 608, 609, 639, 640, 641, 65535]),
+        4 => rng.bits() as u16,
+        _ => {
+            if rng.once_in(2) {
+                request[2..18].fill(0);
+            } else {
+                request[2..18].fill_with(|| rng.bits() as u8);
+            }
+            return;
+        }
+    };
+    request[at..at + 2].copy_from_slice(&new.to_le_bytes());
+}
+
+/// The next request of the sequence.
+pub fn request(rng: &mut Rng) -> [u8; REQUEST] {
+    let theme = rng.below(100);
+    let mut draft = match theme {
+        0..=17 => extreme(rng),
+        18..=27 => cold(rng),
+        28 => hot(rng),
+        _ => ordinary(rng),
+    };
+    fill_unused(rng, &mut draft);
+    let faults: Vec<u8> = match theme {
+        88..=95 => vec![11 + rng.below(6) as u8],
+        96..=97 => (0..2 + rng.below(3))
+            .map(|_| 11 + rng.below(6) as u8)
+            .collect(),
+        _ => vec![],
+    };
+    for &refusal in &faults {
+        damage(rng, &mut draft, refusal);
+    }
+    let mut request = draft.to_bytes(rng);
+    if faults.contains(&11) {
+        damage_pairs(rng, &mut request);
+    }
+    if theme == 99 {
+        match rng.below(4) {
+            0 => request[0] = rng.pick(&[0, 7, 8, 9, 255]),
+            1 => request[1] = rng.pick(&[0, 9, 10, 255]),
+            2 => (request[0], request[1]) = (rng.pick(&[0, 7]), rng.pick(&[0, 9])),
+            // another N than the block was made for
+            _ => request[1] = 1 + rng.below(8) as u8,
+        }
+    }
+    request
+}
+
+/// Requests from a seed.
+pub fn requests(seed: u64, count: usize) -> impl Iterator<Item = [u8; REQUEST]> {
+    let mut rng = Rng::new(seed);
+    (0..count).map(move |_| request(&mut rng))
+}

@@ -1,0 +1,22 @@
+//! The oracle: what document 01 says the Rust would answer, over the standard library alone.
+//! `run_request` answers a request; the five evaluations and the jets are public for vectors and benchmarks.
+
+pub mod block;
+pub mod critical_point;
+pub mod cubic;
+pub mod density_iteration;
+pub mod evaluations;
+pub mod float;
+pub mod generate;
+pub mod jet;
+pub mod random;
+pub mod residual;
+pub mod show;
+pub mod state;
+pub mod vectors;
+
+pub use block::{run_request, trace_request, Answer, BLOCK, REQUEST};
+pub use critical_point::{criticality, stability};
+pub use cubic::{PengRobinson, PengRobinsonRecord};
+pub use density_iteration::_chemical_potential;
+pub use jet::Jet;
