@@ -20,6 +20,7 @@ pub struct Draft {
     pub temperature: f64,
     pub pressure: f64,
     pub start: f64,
+    pub scale: Scale,
 }
 
 /// What the search will see: the blend, or in kinds 5 and 6 the chosen component.
@@ -29,6 +30,35 @@ struct Seen {
     max_density: f64,
     /// mean of the critical temperatures
     tc: f64,
+    scale: Scale,
+}
+
+/// Units of temperature and density. The equation looks the same in any, the tolerances of the searches do not.
+#[derive(Clone, Copy, Debug)]
+pub struct Scale {
+    temperature: f64,
+    density: f64,
+}
+
+impl Scale {
+    fn random(rng: &mut Rng) -> Self {
+        if rng.once_in(5) {
+            Scale {
+                temperature: rng.log_between(1e-18, 1e3),
+                density: rng.log_between(1e-6, 1e15),
+            }
+        } else {
+            Scale {
+                temperature: 1.0,
+                density: 1.0,
+            }
+        }
+    }
+
+    /// One Pascal.
+    fn pascal(&self) -> f64 {
+        PASCAL * self.temperature * self.density
+    }
 }
 
 impl Draft {
@@ -46,6 +76,7 @@ impl Draft {
             x,
             max_density,
             tc,
+            scale: self.scale,
         }
     }
 
@@ -68,7 +99,7 @@ fn temperature(rng: &mut Rng, seen: &Seen) -> f64 {
         1 => seen.tc * rng.between(0.05, 0.5),
         2 | 3 => seen.tc * rng.between(0.4, 1.0),
         4 => seen.tc * rng.between(1.0, 2.0),
-        _ => rng.between(50.0, 900.0),
+        _ => seen.scale.temperature * rng.between(50.0, 900.0),
     }
 }
 
@@ -88,10 +119,11 @@ fn on_spinodal(rng: &mut Rng, seen: &Seen, t: f64) -> Option<(f64, f64)> {
 
 fn pressure(rng: &mut Rng, seen: &Seen, t: f64) -> f64 {
     let limit = seen.max_density * t;
+    let pascal = seen.scale.pascal();
     match rng.below(16) {
         0 => 0.0,
         1 => -0.0,
-        2 => -rng.log_between(1.0, 1e9) * PASCAL,
+        2 => -rng.log_between(1.0, 1e9) * pascal,
         // where the stable search stops looking for a vapour
         3 => limit,
         4 => limit * rng.between(0.9, 1.5),
@@ -100,10 +132,10 @@ fn pressure(rng: &mut Rng, seen: &Seen, t: f64) -> f64 {
             Some((p, _)) => p * rng.pick(&[1.0, 0.999, 1.001, 0.9, 1.1]),
             None => rng.between(0.0, 1.0) * limit,
         },
-        7 => rng.log_between(1e8, 1e12) * PASCAL,
-        8 => rng.log_between(1e-6, 1.0) * PASCAL,
+        7 => rng.log_between(1e8, 1e12) * pascal,
+        8 => rng.log_between(1e-6, 1.0) * pascal,
         9 => rng.pick(&[5e-324, 1e-300, 1e300, f64::MAX, f64::MIN, 1e100]),
-        _ => rng.log_between(1e2, 1e8) * PASCAL,
+        _ => rng.log_between(1e2, 1e8) * pascal,
     }
 }
 
@@ -145,7 +177,12 @@ fn ordinary(rng: &mut Rng) -> Draft {
         temperature: 0.0,
         pressure: 0.0,
         start: 0.0,
+        scale: Scale::random(rng),
     };
+    for record in &mut draft.blend.coefficients {
+        record.tc *= draft.scale.temperature;
+        record.pc *= draft.scale.temperature * draft.scale.density;
+    }
     draft.choice = match kind {
         1 => rng.below(3) as u64,
         4 => rng.below(2) as u64,
