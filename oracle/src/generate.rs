@@ -260,6 +260,47 @@ fn cold(rng: &mut Rng) -> Draft {
     draft
 }
 
+/// A start on a spinodal, with slope exactly 0 where one is near, and the pressure that belongs to it.
+fn flat(rng: &mut Rng) -> Draft {
+    let mut draft = ordinary(rng);
+    draft.kind = rng.pick(&[1, 1, 3]);
+    draft.choice = 2;
+    let seen = draft.seen();
+    draft.temperature = seen.tc * rng.between(0.4, 0.99);
+    let t = draft.temperature;
+    let Some((p, rho)) = on_spinodal(rng, &seen, t) else {
+        return draft;
+    };
+    (draft.pressure, draft.start) = (p, rho);
+    let bits = rho.to_bits();
+    for near in bits.saturating_sub(60)..bits + 60 {
+        let rho = f64::from_bits(near);
+        let (_, p, dp_drho) = seen.eos.p_dpdrho(t, rho, &seen.x);
+        if dp_drho == 0.0 {
+            (draft.pressure, draft.start) = (p, rho);
+        }
+    }
+    draft
+}
+
+/// Energies so small that every slope passes as 0: the branches then are where their searches begin, and the start
+/// lies halfway between them.
+fn faint(rng: &mut Rng) -> Draft {
+    let mut draft = ordinary(rng);
+    draft.kind = 1;
+    draft.choice = 2;
+    let smaller = rng.log_between(1e-18, 1e-9) / draft.scale.temperature;
+    for record in &mut draft.blend.coefficients {
+        record.tc *= smaller;
+        record.pc *= smaller * 1e12;
+    }
+    let seen = draft.seen();
+    draft.temperature = seen.tc * rng.between(0.1, 0.99);
+    draft.start = (0.8 * seen.max_density + 0.001 * seen.max_density) * 0.5;
+    draft.pressure = seen.max_density * draft.temperature * rng.between(-2.0, 0.5);
+    draft
+}
+
 /// So hot that a potential overflows where pressure and slope do not: for a narrow range of co-volumes and temperatures.
 fn hot(rng: &mut Rng) -> Draft {
     let mut draft = ordinary(rng);
@@ -446,6 +487,8 @@ pub fn request(rng: &mut Rng) -> [u8; REQUEST] {
         0..=17 => extreme(rng),
         18..=27 => cold(rng),
         28 => hot(rng),
+        29 => flat(rng),
+        30 => faint(rng),
         _ => ordinary(rng),
     };
     fill_unused(rng, &mut draft);
