@@ -257,6 +257,12 @@ fn cold(rng: &mut Rng) -> Draft {
     if rng.once_in(4) {
         draft.pressure = seen.max_density * draft.temperature * rng.log_between(0.1, 1e4);
     }
+    if rng.once_in(4) {
+        // the liquid spinodal lies at or beyond the maximum density, the start below it
+        (draft.kind, draft.choice) = (1, 2);
+        draft.temperature = seen.tc * rng.between(0.03, 0.2);
+        draft.start = seen.max_density * rng.between(0.5, 0.8);
+    }
     draft
 }
 
@@ -310,6 +316,14 @@ fn hot(rng: &mut Rng) -> Draft {
         // kappa is exactly 0 here, so that the attraction does not depend on the temperature
         record.acentric_factor = -0.23338349942403006;
         record.pc = 0.0778 * record.tc / (covolume * PASCAL);
+    }
+    if rng.once_in(2) {
+        // or that the derivatives by temperature are rounding errors and the step overflows
+        draft.kind = 5;
+        draft.choice = rng.below(draft.n) as u64;
+        draft.temperature = rng.log_between(1e280, 1e306);
+        draft.start = 0.0;
+        return draft;
     }
     draft.temperature = rng.between(1.2e306, 1.77e306);
     let seen = draft.seen();
