@@ -20,6 +20,7 @@ pub struct Draft {
     pub temperature: f64,
     pub pressure: f64,
     pub start: f64,
+    pub scale: Scale,
 }
 
 /// What the search will see: the blend, or in kinds 5 and 6 the chosen component.
@@ -29,6 +30,35 @@ struct Seen {
     max_density: f64,
     /// mean of the critical temperatures
     tc: f64,
+    scale: Scale,
+}
+
+/// Units of temperature and density. The equation looks the same in any, the tolerances of the searches do not.
+#[derive(Clone, Copy, Debug)]
+pub struct Scale {
+    temperature: f64,
+    density: f64,
+}
+
+impl Scale {
+    fn random(rng: &mut Rng) -> Self {
+        if rng.once_in(5) {
+            Scale {
+                temperature: rng.log_between(1e-18, 1e3),
+                density: rng.log_between(1e-6, 1e15),
+            }
+        } else {
+            Scale {
+                temperature: 1.0,
+                density: 1.0,
+            }
+        }
+    }
+
+    /// One Pascal.
+    fn pascal(&self) -> f64 {
+        PASCAL * self.temperature * self.density
+    }
 }
 
 impl Draft {
@@ -46,6 +76,7 @@ impl Draft {
             x,
             max_density,
             tc,
+            scale: self.scale,
         }
     }
 
@@ -68,7 +99,7 @@ fn temperature(rng: &mut Rng, seen: &Seen) -> f64 {
         1 => seen.tc * rng.between(0.05, 0.5),
         2 | 3 => seen.tc * rng.between(0.4, 1.0),
         4 => seen.tc * rng.between(1.0, 2.0),
-        _ => rng.between(50.0, 900.0),
+        _ => seen.scale.temperature * rng.between(50.0, 900.0),
     }
 }
 
@@ -88,10 +119,11 @@ fn on_spinodal(rng: &mut Rng, seen: &Seen, t: f64) -> Option<(f64, f64)> {
 
 fn pressure(rng: &mut Rng, seen: &Seen, t: f64) -> f64 {
     let limit = seen.max_density * t;
+    let pascal = seen.scale.pascal();
     match rng.below(16) {
         0 => 0.0,
         1 => -0.0,
-        2 => -rng.log_between(1.0, 1e9) * PASCAL,
+        2 => -rng.log_between(1.0, 1e9) * pascal,
         // where the stable search stops looking for a vapour
         3 => limit,
         4 => limit * rng.between(0.9, 1.5),
@@ -100,10 +132,10 @@ fn pressure(rng: &mut Rng, seen: &Seen, t: f64) -> f64 {
             Some((p, _)) => p * rng.pick(&[1.0, 0.999, 1.001, 0.9, 1.1]),
             None => rng.between(0.0, 1.0) * limit,
         },
-        7 => rng.log_between(1e8, 1e12) * PASCAL,
-        8 => rng.log_between(1e-6, 1.0) * PASCAL,
+        7 => rng.log_between(1e8, 1e12) * pascal,
+        8 => rng.log_between(1e-6, 1.0) * pascal,
         9 => rng.pick(&[5e-324, 1e-300, 1e300, f64::MAX, f64::MIN, 1e100]),
-        _ => rng.log_between(1e2, 1e8) * PASCAL,
+        _ => rng.log_between(1e2, 1e8) * pascal,
     }
 }
 
@@ -145,7 +177,12 @@ fn ordinary(rng: &mut Rng) -> Draft {
         temperature: 0.0,
         pressure: 0.0,
         start: 0.0,
+        scale: Scale::random(rng),
     };
+    for record in &mut draft.blend.coefficients {
+        record.tc *= draft.scale.temperature;
+        record.pc *= draft.scale.temperature * draft.scale.density;
+    }
     draft.choice = match kind {
         1 => rng.below(3) as u64,
         4 => rng.below(2) as u64,
@@ -220,6 +257,53 @@ fn cold(rng: &mut Rng) -> Draft {
     if rng.once_in(4) {
         draft.pressure = seen.max_density * draft.temperature * rng.log_between(0.1, 1e4);
     }
+    if rng.once_in(4) {
+        // the liquid spinodal lies at or beyond the maximum density, the start below it
+        (draft.kind, draft.choice) = (1, 2);
+        draft.temperature = seen.tc * rng.between(0.03, 0.2);
+        draft.start = seen.max_density * rng.between(0.5, 0.8);
+    }
+    draft
+}
+
+/// A start on a spinodal, with slope exactly 0 where one is near, and the pressure that belongs to it.
+fn flat(rng: &mut Rng) -> Draft {
+    let mut draft = ordinary(rng);
+    draft.kind = rng.pick(&[1, 1, 3]);
+    draft.choice = 2;
+    let seen = draft.seen();
+    draft.temperature = seen.tc * rng.between(0.4, 0.99);
+    let t = draft.temperature;
+    let Some((p, rho)) = on_spinodal(rng, &seen, t) else {
+        return draft;
+    };
+    (draft.pressure, draft.start) = (p, rho);
+    let bits = rho.to_bits();
+    for near in bits.saturating_sub(60)..bits + 60 {
+        let rho = f64::from_bits(near);
+        let (_, p, dp_drho) = seen.eos.p_dpdrho(t, rho, &seen.x);
+        if dp_drho == 0.0 {
+            (draft.pressure, draft.start) = (p, rho);
+        }
+    }
+    draft
+}
+
+/// Energies so small that every slope passes as 0: the branches then are where their searches begin, and the start
+/// lies halfway between them.
+fn faint(rng: &mut Rng) -> Draft {
+    let mut draft = ordinary(rng);
+    draft.kind = 1;
+    draft.choice = 2;
+    let smaller = rng.log_between(1e-18, 1e-9) / draft.scale.temperature;
+    for record in &mut draft.blend.coefficients {
+        record.tc *= smaller;
+        record.pc *= smaller * 1e12;
+    }
+    let seen = draft.seen();
+    draft.temperature = seen.tc * rng.between(0.1, 0.99);
+    draft.start = (0.8 * seen.max_density + 0.001 * seen.max_density) * 0.5;
+    draft.pressure = seen.max_density * draft.temperature * rng.between(-2.0, 0.5);
     draft
 }
 
@@ -232,6 +316,14 @@ fn hot(rng: &mut Rng) -> Draft {
         // kappa is exactly 0 here, so that the attraction does not depend on the temperature
         record.acentric_factor = -0.23338349942403006;
         record.pc = 0.0778 * record.tc / (covolume * PASCAL);
+    }
+    if rng.once_in(2) {
+        // or that the derivatives by temperature are rounding errors and the step overflows
+        draft.kind = 5;
+        draft.choice = rng.below(draft.n) as u64;
+        draft.temperature = rng.log_between(1e280, 1e306);
+        draft.start = 0.0;
+        return draft;
     }
     draft.temperature = rng.between(1.2e306, 1.77e306);
     let seen = draft.seen();
@@ -409,6 +501,8 @@ pub fn request(rng: &mut Rng) -> [u8; REQUEST] {
         0..=17 => extreme(rng),
         18..=27 => cold(rng),
         28 => hot(rng),
+        29 => flat(rng),
+        30 => faint(rng),
         _ => ordinary(rng),
     };
     fill_unused(rng, &mut draft);

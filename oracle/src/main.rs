@@ -2,7 +2,7 @@
 
 use oracle::float::bits;
 use oracle::generate::requests;
-use oracle::show::{show, Census};
+use oracle::show::{select, show, Census};
 use oracle::vectors::{
     eval_cases, eval_record, jet_cases, jet_operation, words, EvalCase, JetCase, JET_RECORD,
 };
@@ -17,6 +17,7 @@ usage: oracle                          answer one request on standard input
        oracle --show                   print requests in readable form until the end of input
        oracle --generate SEED COUNT    requests in bytes
        oracle --census SEED COUNT      the same requests, counted by kind and status
+       oracle --select SEED COUNT EACH of those requests, EACH of every kind and status, and the longest
        oracle --jets SEED COUNT        jet operations with results, in words
        oracle --jets-bin SEED COUNT    the same operations in bytes
        oracle --jets-run               results of jet operations in bytes
@@ -142,6 +143,15 @@ fn run(arguments: &[String]) -> io::Result<bool> {
         ["--show"] => show_all(&mut input, &mut out)?,
         ["--jets-run"] => jets_run(&mut input, &mut out)?,
         ["--evals-run"] => evals_run(&mut input, &mut out)?,
+        ["--select", seed, count, each] => {
+            let (Some(seed), Some(count), Some(each)) = (number(seed), number(count), number(each))
+            else {
+                return Ok(false);
+            };
+            for request in select(seed, count as usize, each) {
+                out.write_all(&request)?;
+            }
+        }
         [command, seed, count] => {
             let (Some(seed), Some(count)) = (number(seed), number(count)) else {
                 return Ok(false);

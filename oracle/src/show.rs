@@ -2,6 +2,7 @@
 
 use crate::block::{lengths, pairs, read_parts, run_request, Answer, BLOCK, REQUEST};
 use crate::float::bits;
+use crate::generate::requests;
 use std::collections::BTreeMap;
 use std::fmt::Write;
 
@@ -54,6 +55,29 @@ pub fn show(request: &[u8; REQUEST]) -> String {
     let _ = writeln!(text, "pressure {}", float(parts.pressure));
     let _ = writeln!(text, "start {}", float(parts.start));
     text
+}
+
+/// Of the generated requests, the first `each` with every kind and status (or refusal), and every one that makes more
+/// evaluations than those with its kind and status before it.
+pub fn select(seed: u64, count: usize, each: u64) -> impl Iterator<Item = [u8; REQUEST]> {
+    let mut seen: BTreeMap<(u8, u64), (u64, u64)> = BTreeMap::new();
+    requests(seed, count).filter(move |request| {
+        let block: &[u8; BLOCK] = request[2..].try_into().expect("640 bytes");
+        let (kind, status, evaluations) = match run_request(request[0], request[1], block) {
+            Answer::Refused(number) => (0, number, 0),
+            Answer::Sealed {
+                kind,
+                status,
+                evaluations,
+                ..
+            } => (kind, status, evaluations),
+        };
+        let (taken, most) = seen.entry((kind, status)).or_default();
+        let longest = evaluations > *most;
+        *most = (*most).max(evaluations);
+        *taken += 1;
+        *taken <= each || longest
+    })
 }
 
 /// How many requests got each answer, and the most evaluations of each kind and of each kind and status.

@@ -150,3 +150,36 @@ fn refusals() {
         format!("1 21 {zeros}")
     );
 }
+
+/// The generated requests reach every refusal of the caller's, the data's and the equation's.
+#[test]
+fn generated_requests_are_mixed() {
+    let mut census = oracle::show::Census::default();
+    for (place, request) in oracle::generate::requests(1, 8000).enumerate() {
+        census.count(place as u64, &request);
+    }
+    assert!(census.refused.contains_key(&2) && census.refused.contains_key(&3));
+    for kind in 1..=6u8 {
+        let expected: &[u64] = match kind {
+            1 => &[0, 11, 12, 13, 14, 15, 16, 21, 22, 27],
+            2 => &[0, 11, 12, 13, 14, 15, 16, 22, 24, 27],
+            3 => &[0, 11, 12, 13, 14, 15, 16, 21, 22, 27],
+            4 => &[0, 11, 12, 13, 14, 15, 16, 22, 25, 27],
+            5 => &[0, 11, 12, 13, 15, 16, 22, 23, 27],
+            _ => &[0, 11, 12, 13, 15, 16, 22, 26],
+        };
+        for status in expected {
+            assert!(
+                census.sealed.contains_key(&(kind, *status)),
+                "{kind} {status}"
+            );
+        }
+    }
+}
+
+/// The same seed gives the same requests.
+#[test]
+fn generated_requests_repeat() {
+    let twice = || oracle::generate::requests(5, 50).collect::<Vec<_>>();
+    assert_eq!(twice(), twice());
+}
