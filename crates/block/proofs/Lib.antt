@@ -1,0 +1,5 @@
+pub mod Lists
+pub mod Sizes
+pub mod PairLaws
+pub mod BlendLaws
+pub mod AlikeLaws

@@ -1,0 +1,28 @@
+-- `block::reader::ready` meets its contract. Assumes nothing.
+use borrow.Author.Needs.{needs}
+use borrow.Author.Tests.{not-false, not-true}
+use Rattle.block.specs.View.{readyOf}
+use Rattle.block.proofs.reader.ready.Statement.{statement}
+use Rattle.block.proofs.reader.ready.Tie as tie
+
+compute-max-density-requires : tie.Need-compute-max-density-requires
+compute-max-density-requires c κs = search needs
+
+positive-requires : tie.Need-positive-requires
+positive-requires c κs = search needs
+
+refused-requires : tie.Need-refused-requires
+refused-requires c κs = search needs
+
+returns : tie.Need-returns
+unfolding readyOf
+returns c = simp (← c .before .before .before .compute-max-density .ensures, ← c .before .before .positive .ensures, not-true (c .before .before .positive .result) (c .before .if1 .taken), ← c .refused .ensures)
+
+returns-2 : tie.Need-returns-2
+unfolding readyOf
+returns-2 c = simp (← c .before .before .compute-max-density .ensures, ← c .before .positive .ensures, not-false (c .before .positive .result) (c .if1 .left))
+
+pub ready-spec : {M : Type 1} → statement M
+ready-spec =
+    tie.close
+    (tie.spec compute-max-density-requires positive-requires refused-requires returns returns-2)

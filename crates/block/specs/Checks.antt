@@ -1,0 +1,59 @@
+-- The checks of the supplier's data, 12 to 16, on the numbers that a job reads. Document 01's sentences are quoted above the definitions. Definitions only.
+use Prim.Native.Nat.{ℕ, _+_, _*_}
+use mathlib.Core.Bool.{Bool, cond, not, _&&_, _||_}
+use mathlib.Core.List.{List}
+use lib.Dec.{leb, ltb, eqb}
+use lib.Ieee.{Float, binary64, lt, toBits}
+use Rattle.float.specs.Ops.{f0}
+use Rattle.float.specs.Sign.{finiteOf, negativeOf}
+use Rattle.eos.specs.declared.types.Component.{Component}
+use Rattle.eos.specs.Cubic.{componentOf}
+use Rattle.block.specs.Lists.{allBelow}
+use Rattle.block.specs.Numbers.{interactionCount}
+use Rattle.block.specs.Blend.{at}
+use Rattle.block.specs.declared.types.Conditions.{Conditions}
+
+-- "finite and positive"
+unfoldable pub positive : Float → Bool
+positive x = finiteOf x && lt f0 x
+
+-- +0, and not −0
+unfoldable pub plusZero : Float → Bool
+plusZero x = eqb (toBits binary64 x) 0
+
+unfoldable pub parametersFit : Component → Bool
+parametersFit c = finiteOf (c .kappa) && (positive (c .a) && positive (c .b))
+
+-- "critical values not finite and positive, acentric factor or kappa not finite, a or b not finite and positive"
+unfoldable pub componentFits : (tc pc ω : Float) → Bool
+componentFits tc pc ω = positive tc && (positive pc && (finiteOf ω && parametersFit (componentOf tc pc ω)))
+
+-- "12 in any component, used or not"
+unfoldable pub componentsFit : (n : ℕ) → List Float → Bool
+componentsFit n row = allBelow n (λ i. componentFits (at row (3 * i)) (at row (3 * i + 1)) (at row (3 * i + 2)))
+
+-- "13 interaction not finite"
+unfoldable pub interactionsFit : (n : ℕ) → List Float → Bool
+interactionsFit n row = allBelow (interactionCount n) (λ k. finiteOf (at row k))
+
+unfoldable pub fractionFits : Float → Bool
+fractionFits x = finiteOf x && not (negativeOf x)
+
+-- "14 a read fraction not finite or with a minus sign"
+unfoldable pub fractionsFit : (n : ℕ) → List Float → Bool
+fractionsFit n row = allBelow n (λ i. fractionFits (at row i))
+
+unfoldable pub temperatureFits : (kind : ℕ) → Float → Bool
+temperatureFits kind t = positive t || (eqb kind 5 && plusZero t)
+
+-- "15 a used temperature not finite and positive (kind 5: or +0), used pressure or start not finite"
+unfoldable pub conditionsFit : (kind : ℕ) → Conditions → Bool
+conditionsFit kind c = temperatureFits kind (c .temperature) && (finiteOf (c .pressure) && finiteOf (c .start))
+
+-- "Choice: kind 1, 0 vapour, 1 liquid, 2 start; kind 4, 0 or 1 likewise; kinds 5 and 6, the component"
+unfoldable pub choices : (kind n : ℕ) → ℕ
+choices kind n = cond (eqb kind 1) 3 (cond (eqb kind 4) 2 (cond (leb 5 kind) n 1))
+
+-- "16 choice"
+unfoldable pub choiceFits : (kind n choice : ℕ) → Bool
+choiceFits kind n choice = ltb choice (choices kind n)

@@ -1,0 +1,7 @@
+pub mod Lists
+pub mod Pairs
+pub mod Numbers
+pub mod Blend
+pub mod Checks
+pub mod View
+pub mod Alike

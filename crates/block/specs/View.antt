@@ -1,0 +1,79 @@
+-- What a job reads of a request, or the refusal, with its checks in document 01's order. Definitions only.
+use Prim.Native.Nat.{ℕ}
+use mathlib.Core.Bool.{Bool, cond, _&&_}
+use mathlib.Core.List.{List}
+use lib.ListN.{length}
+use lib.Dec.{leb, eqb}
+use lib.Ieee.{Float}
+use Rattle.eos.specs.declared.types.Blend.{Blend}
+use Rattle.eos.specs.Cubic.{maxDensity, pureOf}
+use Rattle.solver.specs.declared.types.DensityInitialization.{DensityInitialization}
+use Rattle.solver.specs.declared.types.DensityInitialization.the-variants as Initial
+use Rattle.solver_density.specs.declared.types.Branch.{Branch}
+use Rattle.solver_density.specs.declared.types.Branch.the-variants as Branch
+use Rattle.solver_critical.specs.declared.types.Start.{Start}
+use Rattle.solver_critical.specs.declared.types.Start.the-variants.{None, Given}
+use Rattle.block.specs.declared.types.Conditions.{Conditions}
+use Rattle.block.specs.declared.types.Numbers.{Numbers}
+use Rattle.block.specs.declared.types.Task.{Task}
+use Rattle.block.specs.declared.types.Task.the-variants.{Refused, DensityIteration, DensityIterationStable, PressureSpinodal, PressureSpinodalBranch, CriticalPoint, Spinodal}
+use Rattle.block.specs.declared.types.Job.{Job}
+use Rattle.block.specs.Pairs.{pairsFit}
+use Rattle.block.specs.Numbers.{numbersOf}
+use Rattle.block.specs.Blend.{blendOf, emptyBlend}
+use Rattle.block.specs.Checks.{positive, plusZero, componentsFit, interactionsFit, fractionsFit, conditionsFit, choiceFits}
+
+-- "0 vapour, 1 liquid, 2 start"
+unfoldable pub initialOf : (choice : ℕ) → Float → DensityInitialization
+initialOf choice start = cond (eqb choice 0) Initial.Vapor (cond (eqb choice 1) Initial.Liquid (Initial.InitialDensity start))
+
+-- "0 or 1 likewise"
+unfoldable pub branchOf : (choice : ℕ) → Branch
+branchOf choice = cond (eqb choice 0) Branch.Vapor Branch.Liquid
+
+-- "Kind 5 reads +0 in temperature or start as none"
+unfoldable pub givenOf : Float → Start
+givenOf x = cond (plusZero x) None (Given x)
+
+-- "Kinds and spans"
+unfoldable pub taskOf : (kind : ℕ) → Conditions → Task
+taskOf kind c =
+    cond (eqb kind 1) (DensityIteration (c .temperature) (c .pressure) (initialOf (c .choice) (c .start)))
+    (cond (eqb kind 2) (DensityIterationStable (c .temperature) (c .pressure))
+    (cond (eqb kind 3) (PressureSpinodal (c .temperature) (c .start))
+    (cond (eqb kind 4) (PressureSpinodalBranch (c .temperature) (branchOf (c .choice)))
+    (cond (eqb kind 5) (CriticalPoint (givenOf (c .temperature)) (givenOf (c .start))) (Spinodal (c .temperature))))))
+
+-- the whole blend, or in kinds 5 and 6 the chosen component alone
+unfoldable pub searched : (kind choice : ℕ) → Blend → Blend
+searched kind choice blend = cond (leb kind 4) blend (pureOf blend choice)
+
+unfoldable pub refused : ℕ → Job
+refused number = record { task = Refused number; blend = emptyBlend }
+
+-- a check that is refused by this number
+abbrev pub check : Bool → ℕ → Job → Job
+check ok number next = cond ok next (refused number)
+
+-- "or the run's maximum density not finite and positive"
+unfoldable pub readyOf : Task → Blend → Job
+readyOf task blend = check (positive (maxDensity blend)) 16 (record { task = task; blend = blend })
+
+-- "The supplier's data, sealed, in this order", after 11
+unfoldable pub checked : (kind n : ℕ) → Numbers → Job
+checked kind n d =
+    check (componentsFit n (d .coefficients)) 12
+    (check (interactionsFit n (d .interactions)) 13
+    (check (fractionsFit n (d .fractions)) 14
+    (check (conditionsFit kind (d .conditions)) 15
+    (check (choiceFits kind n (d .conditions .choice)) 16
+    (readyOf (taskOf kind (d .conditions)) (searched kind (d .conditions .choice) (blendOf n d)))))))
+
+-- "2 kind not 1 to 6; 3 N not 1 to 8; .. 8 block not 640 bytes", in submit's order; then the data
+unfoldable pub view : (kind n : ℕ) → List ℕ → Job
+view kind n s =
+    check (leb 1 kind && leb kind 6) 2
+    (check (leb 1 n && leb n 8) 3
+    (check (eqb (length s) 640) 8
+    (check (pairsFit n s) 11
+    (checked kind n (numbersOf kind n s)))))

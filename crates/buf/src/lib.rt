@@ -1,0 +1,93 @@
+// Little-endian numbers, floats and parts in a slice of bytes. specs/Bytes.antt says what each is, for any list.
+ghost use mathlib.Core.Path.{_≡_};
+ghost use Prim.Native.Nat.{_+_, _≤_, _<_};
+ghost use lib.ListN.{length};
+ghost use Rattle.buf.specs.Bytes.{numAt, putNum, part, splice, u64At, putU64, f64At, putF64};
+
+fn wide(x: u8) -> u64
+    ensures { λ r. ⌜ (r ≡ x) × (r < 256) ⌝ }
+{
+    x as u64
+}
+
+// The number of k bytes at index at.
+pub fn get_num(s: &[u8], at: usize, k: usize) -> u64
+    requires { ⌜ (at + k ≤ length (now s)) × (k ≤ 8) ⌝ }
+    ensures { λ r. ⌜ r ≡ numAt k (now (s .entry)) at ⌝ }
+{
+    let mut v: u64 = 0;
+    let mut i = k;
+    while 0 < i {
+        i = i - 1;
+        v = v * 256 + wide(s[at + i]);
+    }
+    v
+}
+
+// Stores the k low bytes of v from index at.
+pub fn put_num(s: &mut [u8], at: usize, k: usize, v: u64)
+    requires { ⌜ at + k ≤ length (now s) ⌝ }
+    ensures { λ _. ⌜ now (s .exit) ≡ putNum k (now (s .entry)) at v ⌝ }
+{
+    let mut x = v;
+    let mut i: usize = 0;
+    while i < k {
+        s[at + i] = (x % 256) as u8;
+        x = x / 256;
+        i = i + 1;
+    }
+}
+
+// Stores all of b from index at.
+pub fn put_part(s: &mut [u8], at: usize, b: &[u8])
+    requires { ⌜ at + length (now b) ≤ length (now s) ⌝ }
+    ensures { λ _. ⌜ now (s .exit) ≡ splice (now (s .entry)) at (now (b .entry)) ⌝ }
+{
+    let mut i: usize = 0;
+    while i < b.len() {
+        s[at + i] = b[i];
+        i = i + 1;
+    }
+}
+
+// Moves the n bytes at index from down to index to.
+pub fn move_down(s: &mut [u8], to: usize, from: usize, n: usize)
+    requires { ⌜ (to ≤ from) × (from + n ≤ length (now s)) ⌝ }
+    ensures { λ _. ⌜ now (s .exit) ≡ splice (now (s .entry)) to (part (now (s .entry)) from n) ⌝ }
+{
+    let mut i: usize = 0;
+    while i < n {
+        s[to + i] = s[from + i];
+        i = i + 1;
+    }
+}
+
+pub fn get_u64(s: &[u8], at: usize) -> u64
+    requires { ⌜ at + 8 ≤ length (now s) ⌝ }
+    ensures { λ r. ⌜ r ≡ u64At (now (s .entry)) at ⌝ }
+{
+    get_num(s, at, 8)
+}
+
+pub fn put_u64(s: &mut [u8], at: usize, v: u64)
+    requires { ⌜ at + 8 ≤ length (now s) ⌝ }
+    ensures { λ _. ⌜ now (s .exit) ≡ putU64 (now (s .entry)) at v ⌝ }
+{
+    put_num(s, at, 8, v)
+}
+
+// Every NaN pattern gives the one NaN.
+pub fn get_f64(s: &[u8], at: usize) -> f64
+    requires { ⌜ at + 8 ≤ length (now s) ⌝ }
+    ensures { λ r. ⌜ r ≡ f64At (now (s .entry)) at ⌝ }
+{
+    float::from_bits(get_u64(s, at))
+}
+
+// NaN is stored as the one pattern 7FF8000000000000.
+pub fn put_f64(s: &mut [u8], at: usize, x: f64)
+    requires { ⌜ at + 8 ≤ length (now s) ⌝ }
+    ensures { λ _. ⌜ now (s .exit) ≡ putF64 (now (s .entry)) at x ⌝ }
+{
+    put_u64(s, at, float::to_bits(x))
+}

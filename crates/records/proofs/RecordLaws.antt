@@ -1,0 +1,50 @@
+-- The record's bytes written number by number, and a whole answer. Assumes nothing.
+use mathlib.Core.Path.{_≡_, refl, sym, ap, _∙_}
+use Prim.Native.Nat.{ℕ, zero, suc, _≤_}
+use mathlib.Core.List.{List, _∷_}
+use lib.ListN.{length, length-append}
+use lib.Dec.{leb}
+use borrow.Author.Tests.{le-leb, eq-eqb}
+use Rattle.buf.specs.Bytes.{bytesOf, zeros, splice, putNum, putU64, putF64}
+use Rattle.buf.proofs.Laws.{splice-append, length-bytesOf, length-zeros}
+use Rattle.block.specs.declared.types.Job.{Job}
+use Rattle.block.specs.View.{view}
+use Rattle.records.specs.declared.types.Outcome.{Outcome}
+use Rattle.records.specs.declared.types.Answered.the-variants.{Written}
+use Rattle.records.specs.Outcome.{outcomeOf}
+use Rattle.records.specs.Record.{publicBytes, sealedBytes, recordBytes, sealedAt, sealedOf}
+use Rattle.records.specs.Answered.{answered}
+
+bytes-zeros : (k : ℕ) → bytesOf k 0 ≡ zeros k
+unfolding bytesOf zeros
+bytes-zeros zero = refl
+bytes-zeros (suc k) = rw (bytes-zeros k)
+
+pub sealed-written : (w w₁ w₂ w₃ w₄ w₅ w₆ : List ℕ) (o : Outcome) → w₁ ≡ putU64 w 16 (o .status) → w₂ ≡ putF64 w₁ 24 (o .values .first) → w₃ ≡ putF64 w₂ 32 (o .values .second)
+    → w₄ ≡ putF64 w₃ 40 (o .values .third) → w₅ ≡ putU64 w₄ 48 (o .evaluations) → w₆ ≡ putU64 w₅ 56 0 → w₆ ≡ splice w sealedAt (sealedBytes o)
+unfolding sealedBytes putNum
+sealed-written w w₁ w₂ w₃ w₄ w₅ w₆ o e₁ e₂ e₃ e₄ e₅ e₆ = rw (e₆, e₅, e₄, e₃, e₂, e₁, ← bytes-zeros 8) (simp (splice-append, length-bytesOf))
+
+pub public-written : (w w₁ w₂ w₃ w₄ : List ℕ) (ticket kind queue : ℕ) → w₁ ≡ putU64 w 0 ticket → w₂ ≡ putNum 1 w₁ 8 kind → w₃ ≡ putNum 1 w₂ 9 queue → w₄ ≡ putNum 6 w₃ 10 0
+    → w₄ ≡ splice w 0 (publicBytes ticket kind queue)
+unfolding publicBytes putNum
+public-written w w₁ w₂ w₃ w₄ ticket kind queue e₁ e₂ e₃ e₄ = rw (e₄, e₃, e₂, e₁, ← bytes-zeros 6) (simp (splice-append, length-bytesOf))
+
+pub length-public : (ticket kind queue : ℕ) → length (publicBytes ticket kind queue) ≡ 16
+unfolding publicBytes
+length-public ticket kind queue = simp (length-append, length-bytesOf, length-zeros)
+
+pub length-sealed : (o : Outcome) → length (sealedBytes o) ≡ 48
+unfolding sealedBytes
+length-sealed o = simp (length-append, length-bytesOf, length-zeros)
+
+pub record-written : (w w₁ w₂ : List ℕ) (ticket kind queue : ℕ) (o : Outcome) → w₁ ≡ splice w 0 (publicBytes ticket kind queue) → w₂ ≡ splice w₁ sealedAt (sealedBytes o)
+    → w₂ ≡ splice w 0 (recordBytes ticket kind queue o)
+unfolding recordBytes
+record-written w w₁ w₂ ticket kind queue o e₁ e₂ = rw (e₂, e₁) (sym (rw (splice-append, length-public)))
+
+pub answer-written : (kind n : ℕ) (s w w′ : List ℕ) (job : Job) (o : Outcome) → 1 ≤ kind → kind ≤ 6 → 1 ≤ n → n ≤ 8 → length s ≡ 640 → 64 ≤ length w
+    → job ≡ view kind n s → o ≡ outcomeOf job → w′ ≡ splice w sealedAt (sealedBytes o) → (Written ≡ answered kind n s w .answer) × (w′ ≡ answered kind n s w .bytes)
+unfolding answered sealedOf
+answer-written kind n s w w′ job o k₁ k₆ n₁ n₈ l r ej eo ew =
+    simp (le-leb _ _ k₁, le-leb _ _ k₆, le-leb _ _ n₁, le-leb _ _ n₈, eq-eqb _ _ l, le-leb _ _ r) (refl, ew ∙ ap (λ (p : Outcome). splice w sealedAt (sealedBytes p)) (eo ∙ ap outcomeOf ej))

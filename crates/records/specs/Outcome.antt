@@ -1,0 +1,49 @@
+-- How a job ends: document 01's "first data refusal's, else those of the definition's end .. with the evaluations made". Definitions only.
+use Prim.Native.Nat.{ℕ}
+use lib.Ieee.{Float}
+use Rattle.float.specs.Ops.{f0}
+use Rattle.float.specs.Sign.{finiteOf}
+use Rattle.eos.specs.declared.types.Blend.{Blend}
+use Rattle.eos.specs.Cubic.{maxDensity}
+use Rattle.solver.specs.declared.types.Ran.{Ran}
+use Rattle.solver.specs.Answer.{statusOf, valuesOf}
+use Rattle.solver.specs.Search.{Search, Evaluator, run}
+use Rattle.solver.specs.Evaluated.{evaluated}
+use Rattle.solver_density.specs.Density.{densityIteration}
+use Rattle.solver_density.specs.Stable.{densityIterationStable}
+use Rattle.solver_density.specs.Spinodal.{pressureSpinodal, pressureSpinodalBranch}
+use Rattle.solver_critical.specs.CriticalPoint.{criticalPoint}
+use Rattle.solver_critical.specs.Spinodal.{spinodal}
+use Rattle.block.specs.declared.types.Job.{Job}
+use Rattle.block.specs.declared.types.Task.{Task}
+use Rattle.block.specs.declared.types.Task.the-variants as Task
+use Rattle.records.specs.declared.types.Outcome.{Outcome}
+
+-- a job is refused by its data, or it is a search
+pub data Course : Type 0 where
+  refusedBy : ℕ → Course
+  searches : Search → Course
+
+-- "Kinds and spans": each kind's search, from the maximum density of its blend
+unfoldable pub courseOf : (maxdensity : Float) → Task → Course
+courseOf maxdensity (Task.Refused number) = refusedBy number
+courseOf maxdensity (Task.DensityIteration t p initial) = searches (densityIteration maxdensity t p initial)
+courseOf maxdensity (Task.DensityIterationStable t p) = searches (densityIterationStable maxdensity t p)
+courseOf maxdensity (Task.PressureSpinodal t start) = searches (pressureSpinodal maxdensity t start)
+courseOf maxdensity (Task.PressureSpinodalBranch t branch) = searches (pressureSpinodalBranch maxdensity t branch)
+courseOf maxdensity (Task.CriticalPoint t density) = searches (criticalPoint maxdensity t density)
+courseOf maxdensity (Task.Spinodal t) = searches (spinodal maxdensity t)
+
+-- "Unused floats, and all on refusal, are +0"; a data refusal comes before any evaluation
+unfoldable pub refusedEnd : ℕ → Outcome
+refusedEnd number = record { status = number; values = record { first = f0; second = f0; third = f0 }; evaluations = 0 }
+
+unfoldable pub searchEnd : Ran → Outcome
+searchEnd r = record { status = statusOf (r .answer); values = valuesOf (r .answer); evaluations = r .evaluations }
+
+unfoldable pub endOf : Evaluator → Course → Outcome
+endOf ev (refusedBy number) = refusedEnd number
+endOf ev (searches t) = searchEnd (run finiteOf ev 0 t)
+
+unfoldable pub outcomeOf : Job → Outcome
+outcomeOf job = endOf (evaluated (job .blend)) (courseOf (maxDensity (job .blend)) (job .task))

@@ -1,0 +1,61 @@
+-- The rule of 27: left out, it changes nothing where every tested number is finite; and where no part may fail unseen, 27 is the answer exactly where one is not. Assumes nothing.
+use mathlib.Core.Path.{_≡_, refl, sym, ap, _∙_}
+use Prim.Native.Nat.{ℕ, _+_}
+use native.Mathlib.Omega.{arith}
+use mathlib.Core.Bool.{Bool, true, false, cond, not, _&&_}
+use lib.Ieee.{Float}
+use Rattle.float.specs.Sign.{finiteOf}
+use Rattle.solver.specs.declared.types.Values.{Values}
+use Rattle.solver.specs.declared.types.Refusal.the-variants.{NotFinite}
+use Rattle.solver.specs.declared.types.Answer.{Answer}
+use Rattle.solver.specs.declared.types.Answer.the-variants.{Found, Refused}
+use Rattle.solver.specs.Answer.{numberOf, statusOf, is27}
+use Rattle.solver.specs.Search.{Evaluation, Yield, Evaluator, Search, done, ask, test, refuse, tested, bind, onFound, andThen, run, clean, Ruled}
+
+-- ---- the Rust itself
+
+-- where no number tested along the run leaves the finite range, document 01's run and the Rust's are the same
+pub clean-agrees : (ev : Evaluator) (n : ℕ) (t : Search) → clean ev t ≡ true → run finiteOf ev n t ≡ run (λ _. true) ev n t
+unfolding run clean
+clean-agrees ev n (done a) c = refl
+clean-agrees ev n (ask e t ρ k) c = clean-agrees ev (n + 1) (k (ev e t ρ)) c
+clean-agrees ev n (test x k) c = by (finiteOf x) c (λ q. clean-agrees ev n (k true) q)
+  where
+    by : (b : Bool) → b && clean ev (k true) ≡ true → (clean ev (k true) ≡ true → run finiteOf ev n (k true) ≡ run (λ _. true) ev n (k true)) → run finiteOf ev n (k b) ≡ run (λ _. true) ev n (k true)
+    by true c h = h c
+    by false c h = let z : _≡_ {A = ℕ} 0 1 = cc in absurd (omega arith)
+
+-- ---- 27
+
+-- the answer is 27 exactly where a number tested along the run leaves the finite range
+pub exactly-27 : (ev : Evaluator) (n : ℕ) {t : Search} → Ruled t → is27 (run finiteOf ev n t .answer) ≡ not (clean ev t)
+unfolding run clean is27 statusOf numberOf
+exactly-27 ev n (Ruled.ended e) = e
+exactly-27 ev n (Ruled.asks {e = e} {t = t} {ρ = ρ} f) = exactly-27 ev (n + 1) (f (ev e t ρ))
+exactly-27 ev n (Ruled.tests {x = x} {k = k} e r) = by (finiteOf x) (exactly-27 ev n r)
+  where
+    by : (b : Bool) → is27 (run finiteOf ev n (k true) .answer) ≡ not (clean ev (k true)) → is27 (run finiteOf ev n (k b) .answer) ≡ not (b && clean ev (k true))
+    by true h = h
+    by false h = rw e
+
+-- ---- searches that are ruled
+pub ruled-asks : {e : Evaluation} {t ρ : Float} {k : Yield e → Search} → ((y : Yield e) → Ruled (k y)) → Ruled (ask e t ρ k)
+ruled-asks f = Ruled.asks f
+
+pub ruled-tested : {t : Search} (x : Float) → Ruled t → Ruled (tested x t)
+unfolding tested
+ruled-tested x r = Ruled.tests refl r
+
+pub ruled-cond : {s t : Search} (b : Bool) → Ruled s → Ruled t → Ruled (cond b s t)
+ruled-cond true r q = r
+ruled-cond false r q = q
+
+pub ruled-then : {t : Search} (f : Values → Search) → Ruled t → ((v : Values) → Ruled (f v)) → Ruled (andThen t f)
+unfolding bind onFound
+ruled-then f (Ruled.ended {a = a} h) r = go a h
+  where
+    go : (a : Answer) → is27 a ≡ false → Ruled (onFound f a)
+    go (Found v) h = r v
+    go (Refused n) h = Ruled.ended h
+ruled-then f (Ruled.asks {k = k} g) r = Ruled.asks (λ y. ruled-then {t = k y} f (g y) r)
+ruled-then f (Ruled.tests e g) r = Ruled.tests (ap (λ (t : Search). andThen t f) e) (ruled-then f g r)

@@ -1,0 +1,13 @@
+-- The evaluations of a blend, as a search asks for them. Definitions only.
+use lib.Ieee.{Float}
+use Rattle.eos.specs.declared.types.Blend.{Blend}
+use Rattle.eos.specs.Residual.{pDpdrho, pDpdrhoD2pdrho2, chemicalPotential}
+use Rattle.eos.specs.Critical.{criticalityConditions, stabilityCondition}
+use Rattle.solver.specs.Search.{Evaluator, slope, curvature, potential, criticality, stability}
+
+unfoldable pub evaluated : Blend → Evaluator
+evaluated blend slope t ρ = pDpdrho blend t ρ
+evaluated blend curvature t ρ = pDpdrhoD2pdrho2 blend t ρ
+evaluated blend potential t ρ = chemicalPotential blend t ρ
+evaluated blend criticality t ρ = criticalityConditions blend t ρ
+evaluated blend stability t ρ = stabilityCondition blend t ρ

@@ -1,0 +1,5 @@
+pub mod Decimals
+pub mod Answer
+pub mod Search
+pub mod Evaluated
+pub mod Stored

@@ -1,0 +1,3 @@
+pub mod CriticalPoint
+pub mod Spinodal
+pub mod Rounds

@@ -1,0 +1,6 @@
+pub mod CriticalLaw
+pub mod SpinodalsLaw
+pub mod Places
+pub mod Ranges
+pub mod Steps
+pub mod StoredBack

@@ -1,0 +1,4 @@
+pub mod CriticalStep
+pub mod SpinodalsStep
+pub mod Stored
+pub mod Step

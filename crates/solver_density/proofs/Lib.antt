@@ -1,0 +1,4 @@
+pub mod Spans
+pub mod Rule
+pub mod Settles
+pub mod Runs

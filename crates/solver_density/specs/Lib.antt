@@ -1,0 +1,4 @@
+pub mod Spinodal
+pub mod Density
+pub mod Stable
+pub mod Rounds

@@ -1,0 +1,4 @@
+pub mod SpinodalStep
+pub mod DensityStep
+pub mod StableStep
+pub mod Stored

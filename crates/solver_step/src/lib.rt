@@ -1,0 +1,31 @@
+// The searches of kinds 1 to 4, one evaluation at a time.
+mod density;
+mod spinodal;
+mod stable;
+mod stored;
+mod types;
+
+pub use crate::density::density_at;
+pub use crate::density::density_begin;
+pub use crate::density::density_next;
+pub use crate::density::phase_answer;
+pub use crate::spinodal::branch_begin;
+pub use crate::spinodal::branch_next;
+pub use crate::spinodal::spinodal_next;
+pub use crate::spinodal::spinodal_start;
+pub use crate::stable::stable_at;
+pub use crate::stable::stable_begin;
+pub use crate::stable::stable_next;
+pub use crate::stored::density_numbers;
+pub use crate::stored::density_place_by;
+pub use crate::stored::spinodal_numbers;
+pub use crate::stored::spinodal_place_by;
+pub use crate::stored::stable_numbers;
+pub use crate::stored::stable_place_by;
+pub use crate::types::DensityPlace;
+pub use crate::types::DensitySpot;
+pub use crate::types::Phase;
+pub use crate::types::SpinodalPlace;
+pub use crate::types::SpinodalSpot;
+pub use crate::types::StablePlace;
+pub use crate::types::StableSpot;
