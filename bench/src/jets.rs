@@ -84,12 +84,10 @@ mod first {
     }
 }
 
-// The same for four coefficients and no other number: the compiler unrolls them.
-mod four {
-    use super::Coefficients;
-
-    pub fn mul(a: &Coefficients, b: &Coefficients) -> Coefficients {
-        let mut c = [0.0; 16];
+/// The same for four coefficients and no other number, on jets of any size from four: the compiler unrolls them.
+pub mod four {
+    pub fn mul<const S: usize>(a: &[f64; S], b: &[f64; S]) -> [f64; S] {
+        let mut c = [0.0; S];
         for m in 0..4 {
             let mut sum = a[0] * b[m];
             for p in 1..=m {
@@ -100,8 +98,8 @@ mod four {
         c
     }
 
-    pub fn div(a: &Coefficients, b: &Coefficients) -> Coefficients {
-        let mut q = [0.0; 16];
+    pub fn div<const S: usize>(a: &[f64; S], b: &[f64; S]) -> [f64; S] {
+        let mut q = [0.0; S];
         for m in 0..4 {
             let mut rest = a[m];
             for p in 0..m {
@@ -112,8 +110,8 @@ mod four {
         q
     }
 
-    pub fn sqrt(a: &Coefficients) -> Coefficients {
-        let mut r = [0.0; 16];
+    pub fn sqrt<const S: usize>(a: &[f64; S]) -> [f64; S] {
+        let mut r = [0.0; S];
         r[0] = a[0].sqrt();
         for m in 1..4 {
             let mut rest = a[m];
@@ -125,8 +123,8 @@ mod four {
         r
     }
 
-    pub fn ln(a: &Coefficients) -> Coefficients {
-        let mut l = [0.0; 16];
+    pub fn ln<const S: usize>(a: &[f64; S]) -> [f64; S] {
+        let mut l = [0.0; S];
         l[0] = oracle::float::ln(a[0]);
         for m in 1..4 {
             let mut rest = m as f64 * a[m];

@@ -14,7 +14,7 @@ impl Row {
     }
 }
 
-const RUNS: usize = 25;
+const RUNS: usize = 200;
 
 fn seconds(f: &mut dyn FnMut()) -> f64 {
     let start = Instant::now();

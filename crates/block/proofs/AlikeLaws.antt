@@ -1,12 +1,11 @@
 -- Blocks that agree on every byte read have the same view. Assumes nothing.
 use mathlib.Core.Path.{_≡_, refl, sym, ap, _∙_}
-use Prim.Native.Nat.{ℕ, _+_, _-_, _*_, _/_, _≤_, _<_}
+use Prim.Native.Nat.{ℕ, _+_, _-_, _*_, _/_, _≤_}
 use native.Mathlib.Omega.{arith}
 use mathlib.Core.Bool.{Bool, true, false, cond}
 use mathlib.Core.List.{List}
-use lib.ListN.{length}
-use lib.Dec.{leb, ltb, eqb}
-use lib.Ieee.{Float, binary64, ofBits}
+use lib.Dec.{leb, ltb}
+use lib.Ieee.{binary64, ofBits}
 use borrow.Author.Tests.{le-leb, ltb-true}
 use Rattle.float.specs.Ops.{f0}
 use Rattle.buf.specs.Bytes.{part, numAt, u64At, f64At}

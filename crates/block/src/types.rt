@@ -23,11 +23,17 @@ pub struct Numbers {
 // What a job does, kinds 1 to 6 under the names of the Rust's functions; or the number of the refusal.
 pub enum Task {
     Refused(u64),
+    // temperature, pressure, where to start
     DensityIteration(f64, f64, DensityInitialization),
+    // temperature, pressure
     DensityIterationStable(f64, f64),
+    // temperature, starting density
     PressureSpinodal(f64, f64),
+    // temperature, branch
     PressureSpinodalBranch(f64, Branch),
+    // temperature and starting density, each if given
     CriticalPoint(Start, Start),
+    // temperature
     Spinodal(f64),
 }
 

@@ -1,9 +1,8 @@
 -- The record's bytes written number by number, and a whole answer. Assumes nothing.
 use mathlib.Core.Path.{_≡_, refl, sym, ap, _∙_}
 use Prim.Native.Nat.{ℕ, zero, suc, _≤_}
-use mathlib.Core.List.{List, _∷_}
+use mathlib.Core.List.{List}
 use lib.ListN.{length, length-append}
-use lib.Dec.{leb}
 use borrow.Author.Tests.{le-leb, eq-eqb}
 use Rattle.buf.specs.Bytes.{bytesOf, zeros, splice, putNum, putU64, putF64}
 use Rattle.buf.proofs.Laws.{splice-append, length-bytesOf, length-zeros}

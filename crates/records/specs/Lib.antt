@@ -1,3 +1,4 @@
 pub mod Outcome
 pub mod Record
+pub mod Span
 pub mod Answered

@@ -3,7 +3,6 @@ use Prim.Native.Nat.{ℕ}
 use lib.Ieee.{Float}
 use Rattle.float.specs.Ops.{f0}
 use Rattle.float.specs.Sign.{finiteOf}
-use Rattle.eos.specs.declared.types.Blend.{Blend}
 use Rattle.eos.specs.Cubic.{maxDensity}
 use Rattle.solver.specs.declared.types.Ran.{Ran}
 use Rattle.solver.specs.Answer.{statusOf, valuesOf}
@@ -45,5 +44,8 @@ unfoldable pub endOf : Evaluator → Course → Outcome
 endOf ev (refusedBy number) = refusedEnd number
 endOf ev (searches t) = searchEnd (run finiteOf ev 0 t)
 
+abbrev pub jobCourse : Job → Course
+jobCourse job = courseOf (maxDensity (job .blend)) (job .task)
+
 unfoldable pub outcomeOf : Job → Outcome
-outcomeOf job = endOf (evaluated (job .blend)) (courseOf (maxDensity (job .blend)) (job .task))
+outcomeOf job = endOf (evaluated (job .blend)) (jobCourse job)

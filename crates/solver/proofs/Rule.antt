@@ -1,16 +1,15 @@
 -- The rule of 27: left out, it changes nothing where every tested number is finite; and where no part may fail unseen, 27 is the answer exactly where one is not. Assumes nothing.
-use mathlib.Core.Path.{_≡_, refl, sym, ap, _∙_}
+use mathlib.Core.Path.{_≡_, refl, ap}
 use Prim.Native.Nat.{ℕ, _+_}
 use native.Mathlib.Omega.{arith}
 use mathlib.Core.Bool.{Bool, true, false, cond, not, _&&_}
 use lib.Ieee.{Float}
 use Rattle.float.specs.Sign.{finiteOf}
 use Rattle.solver.specs.declared.types.Values.{Values}
-use Rattle.solver.specs.declared.types.Refusal.the-variants.{NotFinite}
 use Rattle.solver.specs.declared.types.Answer.{Answer}
 use Rattle.solver.specs.declared.types.Answer.the-variants.{Found, Refused}
 use Rattle.solver.specs.Answer.{numberOf, statusOf, is27}
-use Rattle.solver.specs.Search.{Evaluation, Yield, Evaluator, Search, done, ask, test, refuse, tested, bind, onFound, andThen, run, clean, Ruled}
+use Rattle.solver.specs.Search.{Evaluation, Yield, Evaluator, Search, done, ask, test, tested, bind, onFound, andThen, run, clean, Ruled}
 
 -- ---- the Rust itself
 

@@ -1,5 +1,4 @@
 -- The evaluations of a blend, as a search asks for them. Definitions only.
-use lib.Ieee.{Float}
 use Rattle.eos.specs.declared.types.Blend.{Blend}
 use Rattle.eos.specs.Residual.{pDpdrho, pDpdrhoD2pdrho2, chemicalPotential}
 use Rattle.eos.specs.Critical.{criticalityConditions, stabilityCondition}

@@ -16,14 +16,13 @@ use Rattle.solver.specs.declared.types.Refusal.the-variants.{NotConverged, NotF
 use Rattle.solver.specs.declared.types.Answer.{Answer}
 use Rattle.solver.specs.declared.types.Answer.the-variants.{Found, Refused}
 use Rattle.solver.specs.declared.types.Ran.{Ran}
-use Rattle.solver.specs.Search.{Search, done, refuse, tested, bind, andThen, run, settle, Within}
+use Rattle.solver.specs.Search.{Search, done, refuse, andThen, run, settle}
 use Rattle.solver.specs.Evaluated.{evaluated}
 use Rattle.solver.proofs.Runs.{ran, same-run, run-from, run-tested, part-bind, first-part, then-done, then-refused}
 use Rattle.solver_density.specs.declared.types.Branch.{Branch}
 use Rattle.solver_density.specs.declared.types.Conditions.{Conditions}
 use Rattle.solver_density.specs.declared.types.Detour.{Detour}
 use Rattle.solver_density.specs.declared.types.Outcome.{Outcome}
-use Rattle.solver_density.specs.declared.types.Outcome.the-variants.{End, Next}
 use Rattle.solver_density.specs.declared.types.SlopeOutcome.{SlopeOutcome}
 use Rattle.solver_density.specs.Spinodal.{tested3, spinodalFrom, pressureSpinodal, branchStart, branchAnswer, pressureSpinodalBranch}
 use Rattle.solver_density.specs.Density.{corrected, detourOf, detour, unstable, densityFrom, firstRound, densitySearch, densityIteration}

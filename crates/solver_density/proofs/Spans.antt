@@ -1,7 +1,6 @@
 -- The longest runs of kinds 1 to 4, whatever the evaluations yield. Assumes nothing.
 use Prim.Native.Nat.{ℕ, zero, suc, _+_, _*_, _≤_}
 use native.Mathlib.Omega.{arith}
-use mathlib.Core.Bool.{Bool, true, false, cond}
 use lib.Ieee.{Float, lt, le}
 use Rattle.float.specs.Ops.{_⊗_, f0}
 use Rattle.float.specs.Sign.{negativeOf}

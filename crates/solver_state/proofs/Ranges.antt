@@ -6,16 +6,12 @@ use mathlib.Core.Bool.{Bool, true, false, cond}
 use lib.Ieee.{Float}
 use lib.Dec.{eqb}
 use Rattle.float.specs.Ops.{f0}
-use Rattle.solver.specs.declared.types.Values.{Values}
-use Rattle.solver.specs.declared.types.Counters.{Counters}
 use Rattle.solver.specs.declared.types.Numbers.{Numbers}
-use Rattle.solver.specs.Answer.{statusOf, valuesOf}
-use Rattle.solver.specs.Stored.{answerBy, statusFits}
+use Rattle.solver.specs.Stored.{statusFits}
 use Rattle.solver.specs.Search.{Evaluator}
 use Rattle.solver.proofs.Ranges.{Fits, Below, below, fits, status-fits, ended-fits}
 use Rattle.solver_density.specs.declared.types.Branch.{Branch}
 use Rattle.solver_density.specs.declared.types.Conditions.{Conditions}
-use Rattle.solver_critical.specs.CriticalPoint.{startDensity}
 use Rattle.solver_density.specs.declared.types.Nearest.{Nearest}
 use Rattle.solver_density.specs.declared.types.Nearest.the-variants.{HighDensity, AboveConvex, BelowConcave}
 use Rattle.solver_density.specs.declared.types.Both.{Both}
@@ -27,14 +23,11 @@ use Rattle.solver_step.specs.declared.types.DensitySpot.the-variants.{First, Sl
 use Rattle.solver_step.specs.declared.types.DensityPlace.{DensityPlace}
 use Rattle.solver_step.specs.declared.types.DensityPlace.the-variants as DensityPlace
 use Rattle.solver_step.specs.declared.types.StableSpot.{StableSpot}
-use Rattle.solver_step.specs.declared.types.StableSpot.the-variants.{LiquidSearch, VaporSearch, LiquidPotential, VaporPotential}
 use Rattle.solver_step.specs.declared.types.StablePlace.{StablePlace}
 use Rattle.solver_step.specs.declared.types.StablePlace.the-variants as Stable
 use Rattle.solver_step.specs.DensityStep.{phaseAnswer}
-use Rattle.solver_step.specs.Stored.{nearestNumber, nearestBy, bothNumber, bothBy, spotNumbers, spinodalNumbers, spinodalSpotBy, spinodalPlaceBy, phaseBy, densitySpotNumbers, densitySpotBy, densityNumbers, densityPlaceBy, staged, potentialNumbers, stableNumbers, stableSpotBy, stablePlaceBy}
+use Rattle.solver_step.specs.Stored.{nearestNumber, bothNumber, spotNumbers, spinodalNumbers, spinodalSpotBy, spinodalPlaceBy, phaseBy, densitySpotNumbers, densitySpotBy, densityNumbers, densityPlaceBy, staged, potentialNumbers, stableNumbers, stableSpotBy, stablePlaceBy}
 use Rattle.solver_step.proofs.Ranges.{spinodal-kept, branch-kept, density-kept, stable-kept, spinodal-start-fits, branch-begin-fits, density-begin-fits, stable-begin-fits}
-use Rattle.solver_critical_step.specs.declared.types.CriticalSpot.{CriticalSpot}
-use Rattle.solver_critical_step.specs.declared.types.CriticalSpot.the-variants.{Given, Trial}
 use Rattle.solver_critical_step.specs.declared.types.CriticalPlace.{CriticalPlace}
 use Rattle.solver_critical_step.specs.declared.types.CriticalPlace.the-variants as Critical
 use Rattle.solver_critical_step.specs.declared.types.SpinodalsSpot.{SpinodalsSpot}

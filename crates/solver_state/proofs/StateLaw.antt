@@ -1,10 +1,10 @@
 -- Every kind: a state's step is one evaluation of the search that is left there; after j steps it stands where the search does, and from the span on it has its end. Assumes nothing.
 use mathlib.Core.Path.{_≡_, refl, sym, ap, _∙_}
-use Prim.Native.Nat.{ℕ, _+_}
+use Prim.Native.Nat.{ℕ}
 use lib.Ieee.{Float}
 use Rattle.float.specs.Sign.{finiteOf}
 use Rattle.solver.specs.declared.types.Numbers.{Numbers}
-use Rattle.solver.specs.Search.{Evaluator, Search, done, settle, Going, nextOf, next, fresh, Within}
+use Rattle.solver.specs.Search.{Evaluator, Search, Going, nextOf, next, fresh, Within}
 use Rattle.solver.proofs.Steps.{moved, Stepped, stepped}
 use Rattle.solver_density.specs.declared.types.Branch.{Branch}
 use Rattle.solver_density.specs.declared.types.Conditions.{Conditions}
@@ -19,9 +19,9 @@ use Rattle.solver_step.specs.declared.types.DensityPlace.{DensityPlace}
 use Rattle.solver_step.specs.declared.types.DensityPlace.the-variants as DensityPlace
 use Rattle.solver_step.specs.declared.types.StablePlace.{StablePlace}
 use Rattle.solver_step.specs.declared.types.StablePlace.the-variants as Stable
-use Rattle.solver_step.specs.SpinodalStep.{spinodalStart, spinodalLeft, spinodalNext, branchBegin, branchLeft, branchNext}
-use Rattle.solver_step.specs.DensityStep.{densityLeft, densityAt, densityNext, densityBegin}
-use Rattle.solver_step.specs.StableStep.{stableLeft, stableAt, stableNext, stableBegin}
+use Rattle.solver_step.specs.SpinodalStep.{spinodalStart, spinodalLeft, branchBegin, branchLeft}
+use Rattle.solver_step.specs.DensityStep.{densityLeft, densityAt, densityBegin}
+use Rattle.solver_step.specs.StableStep.{stableLeft, stableAt, stableBegin}
 use Rattle.solver_step.specs.Stored.{spinodalNumbers, spinodalPlaceBy, densityNumbers, densityPlaceBy, stableNumbers, stablePlaceBy}
 use Rattle.solver_step.proofs.SpinodalLaw.{spinodal-law, spinodal-begins, branch-law, branch-begins}
 use Rattle.solver_step.proofs.DensityLaw.{density-law, density-begins}
@@ -31,8 +31,8 @@ use Rattle.solver_critical_step.specs.declared.types.CriticalPlace.{CriticalPla
 use Rattle.solver_critical_step.specs.declared.types.CriticalPlace.the-variants as Critical
 use Rattle.solver_critical_step.specs.declared.types.SpinodalsPlace.{SpinodalsPlace}
 use Rattle.solver_critical_step.specs.declared.types.SpinodalsPlace.the-variants as Spinodals
-use Rattle.solver_critical_step.specs.CriticalStep.{criticalLeft, criticalAt, criticalNext, criticalBegin}
-use Rattle.solver_critical_step.specs.SpinodalsStep.{spinodalsLeft, spinodalsAt, spinodalsNext, spinodalsBegin}
+use Rattle.solver_critical_step.specs.CriticalStep.{criticalLeft, criticalAt, criticalBegin}
+use Rattle.solver_critical_step.specs.SpinodalsStep.{spinodalsLeft, spinodalsAt, spinodalsBegin}
 use Rattle.solver_critical_step.specs.Stored.{criticalNumbers, criticalPlaceBy, spinodalsNumbers, spinodalsPlaceBy}
 use Rattle.solver_critical_step.proofs.CriticalLaw.{critical-law, critical-begins}
 use Rattle.solver_critical_step.proofs.SpinodalsLaw.{spinodals-law, spinodals-begins}

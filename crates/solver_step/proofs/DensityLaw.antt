@@ -6,7 +6,6 @@ use lib.Ieee.{Float, le}
 use Rattle.float.specs.Ops.{f0}
 use Rattle.float.specs.Sign.{finiteOf}
 use Rattle.eos.specs.declared.types.Pressure.{Pressure}
-use Rattle.solver.specs.declared.types.Values.{Values}
 use Rattle.solver.specs.declared.types.Refusal.the-variants.{StartNotPositive, NotFinite}
 use Rattle.solver.specs.declared.types.Answer.{Answer}
 use Rattle.solver.specs.declared.types.Answer.the-variants as Answer
@@ -22,7 +21,7 @@ use Rattle.solver_density.specs.declared.types.Detour.{Detour}
 use Rattle.solver_density.specs.declared.types.Detour.the-variants.{ByNearest, ByBoth}
 use Rattle.solver_density.specs.Spinodal.{tested3, pressureSpinodal, pressureSpinodalBranch, spinodalFrom}
 use Rattle.solver_density.specs.Density.{density, corrected, detourOf, afterNearest, afterBoth, vapor, detour, unstable, densityFrom, firstRound, densitySearch}
-use Rattle.solver_density.specs.Rounds.{finite3, slopeRound}
+use Rattle.solver_density.specs.Rounds.{finite3}
 use Rattle.solver_density.proofs.Settles.{settled, tests3, slopeLed, slope-led}
 use Rattle.solver_step.specs.declared.types.SpinodalPlace.{SpinodalPlace}
 use Rattle.solver_step.specs.declared.types.SpinodalPlace.the-variants as Spinodal
@@ -31,7 +30,7 @@ use Rattle.solver_step.specs.declared.types.DensitySpot.{DensitySpot}
 use Rattle.solver_step.specs.declared.types.DensitySpot.the-variants.{First, Slope, Curvature, NearestSpinodal, LiquidSpinodal, VaporSpinodal}
 use Rattle.solver_step.specs.declared.types.DensityPlace.{DensityPlace}
 use Rattle.solver_step.specs.declared.types.DensityPlace.the-variants.{Ended, At}
-use Rattle.solver_step.specs.SpinodalStep.{spinodalStart, resumeSpinodal, spinodalLeft, spinodalNext, branchBegin, resumeBranch, branchLeft, branchNext}
+use Rattle.solver_step.specs.SpinodalStep.{spinodalStart, resumeSpinodal, spinodalLeft, branchBegin, resumeBranch, branchLeft}
 use Rattle.solver_step.specs.DensityStep.{phaseAnswer, slopeAt, arrivedAt, slopeOn, goOn, resumeDensity, densityLeft, densityAt, firstOn, nearestOn, vaporOn, liquidOn, detourAt, curvatureOn, densityNext, densityBegin}
 use Rattle.solver_step.proofs.SpinodalLaw.{spinodal-law, spinodal-begins, spinodal-asks2, branch-law, branch-begins, branch-asks2}
 

@@ -13,7 +13,7 @@ use Rattle.solver.specs.declared.types.Answer.the-variants as Answer
 use Rattle.solver.specs.Answer.{statusOf}
 use Rattle.solver.specs.Stored.{statusFits}
 use Rattle.solver.specs.Search.{Evaluator}
-use Rattle.solver.proofs.Ranges.{Fits, Below, below, fits, status-fits, ended-fits}
+use Rattle.solver.proofs.Ranges.{Fits, below, fits, status-fits, ended-fits}
 use Rattle.solver_density.specs.declared.types.Branch.{Branch}
 use Rattle.solver_density.specs.declared.types.Branch.the-variants.{Liquid, Vapor}
 use Rattle.solver_density.specs.declared.types.Conditions.{Conditions}
@@ -27,9 +27,9 @@ use Rattle.solver_density.specs.declared.types.Both.{Both}
 use Rattle.solver_density.specs.declared.types.Both.the-variants.{BelowConvex, AboveConcave}
 use Rattle.solver_density.specs.declared.types.Detour.{Detour}
 use Rattle.solver_density.specs.declared.types.Detour.the-variants.{ByNearest, ByBoth}
-use Rattle.solver_density.specs.Density.{corrected, detourOf, afterNearest, afterBoth}
+use Rattle.solver_density.specs.Density.{detourOf, afterNearest}
 use Rattle.solver_density.specs.Rounds.{finite3}
-use Rattle.solver_density.specs.Spinodal.{branchAnswer, branchStart}
+use Rattle.solver_density.specs.Spinodal.{branchStart}
 use Rattle.solver_step.specs.declared.types.SpinodalSpot.{SpinodalSpot}
 use Rattle.solver_step.specs.declared.types.SpinodalPlace.{SpinodalPlace}
 use Rattle.solver_step.specs.declared.types.SpinodalPlace.the-variants as Spinodal
@@ -41,7 +41,6 @@ use Rattle.solver_step.specs.declared.types.DensityPlace.{DensityPlace}
 use Rattle.solver_step.specs.declared.types.DensityPlace.the-variants as Density
 use Rattle.solver_step.specs.declared.types.StableSpot.{StableSpot}
 use Rattle.solver_step.specs.declared.types.StableSpot.the-variants.{LiquidSearch, VaporSearch, LiquidPotential, VaporPotential}
-use Rattle.solver_step.specs.declared.types.StablePlace.{StablePlace}
 use Rattle.solver_step.specs.declared.types.StablePlace.the-variants as Stable
 use Rattle.solver_step.specs.SpinodalStep.{spinodalOn, spinodalStart, spinodalNext, branchPlace, branchBegin, branchNext}
 use Rattle.solver_step.specs.DensityStep.{phaseAnswer, slopeAt, arrivedAt, slopeOn, firstOn, nearestOn, vaporOn, liquidOn, detourAt, curvatureOn, densityNext, densityBegin}

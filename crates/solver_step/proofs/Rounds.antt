@@ -5,10 +5,8 @@ use native.Mathlib.Omega.{arith}
 use lib.Ieee.{Float}
 use Rattle.solver_density.specs.declared.types.Outcome.{Outcome}
 use Rattle.solver_density.specs.declared.types.Outcome.the-variants.{Next}
-use Rattle.solver_step.specs.declared.types.SpinodalPlace.{SpinodalPlace}
 use Rattle.solver_step.specs.declared.types.SpinodalPlace.the-variants as Spinodal
 use Rattle.solver_step.specs.declared.types.DensitySpot.the-variants.{Slope}
-use Rattle.solver_step.specs.declared.types.DensityPlace.{DensityPlace}
 use Rattle.solver_step.specs.declared.types.DensityPlace.the-variants as Density
 use Rattle.solver_step.specs.SpinodalStep.{spinodalOn}
 use Rattle.solver_step.specs.DensityStep.{slopeAt}

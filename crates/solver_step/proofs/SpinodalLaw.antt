@@ -8,7 +8,7 @@ use Rattle.float.specs.Sign.{finiteOf}
 use Rattle.solver.specs.declared.types.Refusal.the-variants.{StartNotPositive}
 use Rattle.solver.specs.declared.types.Answer.{Answer}
 use Rattle.solver.specs.declared.types.Answer.the-variants.{Found, Refused}
-use Rattle.solver.specs.Search.{Evaluator, Search, done, refuse, bind, onFound, andThen, settle, nextOf, curvature}
+use Rattle.solver.specs.Search.{Evaluator, Search, done, refuse, bind, onFound, settle, nextOf, curvature}
 use Rattle.solver.proofs.Steps.{settle-bind, moved, next-bind}
 use Rattle.solver_density.specs.declared.types.Branch.{Branch}
 use Rattle.solver_density.specs.declared.types.Outcome.{Outcome}

@@ -5,7 +5,6 @@ use mathlib.Core.Bool.{Bool, true, false, cond}
 use lib.Ieee.{Float, lt}
 use Rattle.float.specs.Ops.{_⊗_}
 use Rattle.float.specs.Sign.{finiteOf}
-use Rattle.solver.specs.declared.types.DensityInitialization.the-variants.{Vapor, Liquid}
 use Rattle.solver.specs.declared.types.Refusal.the-variants.{NotFinite}
 use Rattle.solver.specs.declared.types.Answer.{Answer}
 use Rattle.solver.specs.Search.{Evaluator, Search, done, refuse, tested, bind, settle, nextOf, potential}
@@ -22,7 +21,7 @@ use Rattle.solver_step.specs.declared.types.StableSpot.{StableSpot}
 use Rattle.solver_step.specs.declared.types.StableSpot.the-variants.{LiquidSearch, VaporSearch, LiquidPotential, VaporPotential}
 use Rattle.solver_step.specs.declared.types.StablePlace.{StablePlace}
 use Rattle.solver_step.specs.declared.types.StablePlace.the-variants.{Ended, At}
-use Rattle.solver_step.specs.DensityStep.{phaseAnswer, resumeDensity, densityLeft, densityAt, densityNext, densityBegin}
+use Rattle.solver_step.specs.DensityStep.{phaseAnswer, resumeDensity, densityLeft, densityAt, densityBegin}
 use Rattle.solver_step.specs.StableStep.{ofDensity, phasesOn, vaporSearchOn, liquidPotentialOn, vaporPotentialOn, ofLiquid, ofVapor, resumeStable, stableLeft, stableAt, liquidSearchOn, stableNext, stableBegin}
 use Rattle.solver_step.proofs.DensityLaw.{density-law, density-begins, density-asks}
 

@@ -6,7 +6,6 @@ use Rattle.float.specs.Sign.{finiteOf}
 use Rattle.solver.specs.declared.types.DensityInitialization.the-variants.{Vapor, Liquid}
 use Rattle.solver.specs.declared.types.Values.{Values}
 use Rattle.solver.specs.declared.types.Refusal.the-variants.{BothPhasesFailed, NotFinite}
-use Rattle.solver.specs.declared.types.Answer.{Answer}
 use Rattle.solver.specs.Search.{Evaluator, Search, done, bind, potential}
 use Rattle.solver_density.specs.declared.types.Conditions.{Conditions}
 use Rattle.solver_density.specs.Density.{conditionsOf}

@@ -8,7 +8,7 @@ use lib.Seq.{set-comm}
 use borrow.Author.Tests.{lt-ltb, le-ltb}
 use Rattle.buf.specs.Bytes.{splice}
 use Rattle.buf.proofs.Laws.{splice-append}
-use Rattle.text.specs.Digits.{glyph, digits, widthIn, width}
+use Rattle.text.specs.Digits.{glyph, digits, widthIn}
 
 pub length-digits : (base k n : ℕ) → length (digits base k n) ≡ k
 unfolding digits

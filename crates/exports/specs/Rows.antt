@@ -1,0 +1,20 @@
+-- How a blend comes in by arrays, and what the evaluations yield goes out as one. Definitions only.
+use Prim.Native.Nat.{ℕ}
+use mathlib.Core.List.{List, [], _∷_}
+use lib.Ieee.{Float}
+use Rattle.eos.specs.declared.types.Blend.{Blend}
+use Rattle.eos.specs.declared.types.Pressure.{Pressure}
+use Rattle.eos.specs.declared.types.Criticality.{Criticality}
+use Rattle.eos.specs.declared.types.Stability.{Stability}
+
+abbrev pub blendOf : ℕ → List Float → List Float → List Float → List Float → List Float → List Float → Blend
+blendOf n tc a b kappa k x = record { n = n; tc = tc; a = a; b = b; kappa = kappa; «k_ij» = k; x = x }
+
+abbrev pub pressureRow : Pressure → List Float
+pressureRow y = y .p ∷ y .«dp_drho» ∷ y .«d2p_drho2» ∷ []
+
+abbrev pub criticalityRow : Criticality → List Float
+criticalityRow y = y .l ∷ y .c2 ∷ y .«dl_dt» ∷ y .«dl_drho» ∷ y .«dc2_dt» ∷ y .«dc2_drho» ∷ []
+
+abbrev pub stabilityRow : Stability → List Float
+stabilityRow y = y .f ∷ y .df ∷ []

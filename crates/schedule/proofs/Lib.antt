@@ -1,0 +1,5 @@
+pub mod Image
+pub mod Never
+pub mod Rounds
+pub mod Order
+pub mod OnTime
