@@ -8,14 +8,16 @@ use lib.ListN.{take}
 use lib.Ieee.{Float, eq, ofInt, ofBits}
 use Rattle.float.specs.Ops.{_⊕_, _⊖_, _⊗_, _⊘_, f0, f1}
 use Rattle.float.specs.Ln.{lnOf}
-use Rattle.jet.specs.Positions.{positions}
-use Rattle.jet.specs.Coefficients.{at, Upto, numberOf, markedOf, sumOf, differenceOf, productOf, quotientOf, recipOf, rootOf, logarithmOf, derivativeOf, factorial, factorialOf}
-use Rattle.jet.proofs.Depends.{sum-first, quotient-first, derivative-all}
+use Rattle.jet.specs.Coefficients.{at, Upto, cut, numberOf, markedOf, sumOf, differenceOf, productOf, quotientOf, recipOf, rootOf, logarithmOf, derivativeOf, factorial, factorialOf}
+use Rattle.jet.proofs.Depends.{derivative-first}
+use Rattle.jet.proofs.Prefix.{add-upto, sub-upto, mul-upto, div-upto, sqrt-upto, ln-upto}
 use Rattle.eos.specs.declared.types.Blend.{Blend}
 use Rattle.eos.specs.declared.types.Pressure.{Pressure}
+use Rattle.eos.specs.declared.types.Criticality.{Criticality}
+use Rattle.eos.specs.declared.types.Stability.{Stability}
 use Rattle.eos.specs.Cubic.{nth, componentsOf}
 use Rattle.eos.specs.Residual.{helmholtz, alongVolume, derived, pressureFrom, slopeFrom, curvatureFrom, pDpdrho, pDpdrhoD2pdrho2, chemicalPotential}
-use Rattle.eos.specs.Critical.{energyOverT, dmuDn, eigenvalue, moved, idealGas, thirdDerivative}
+use Rattle.eos.specs.Critical.{energyOverT, dmuDn, eigenvalue, moved, idealGas, thirdDerivative, criticalityConditions, stabilityCondition}
 use Rattle.eos.proofs.Energy.{helmholtz-cong, coefficient-of}
 
 -- ---- along the density
@@ -77,38 +79,70 @@ module _ (b : Blend) (t ρ : Float) (a : List Float) (e : Upto 4 a (alongVolume 
 -- ---- towards a critical point
 
 module _ (b : Blend) (t v : List Float) where
-  pub energy-over-t-law : (n : List Float) (moles : ℕ → List Float) (a out : List Float) → moles 0 ≡ n → Upto positions a (helmholtz b 1 t v moles) → out ≡ quotientOf a t → Upto positions out (energyOverT b t v n)
+  pub energy-over-t-law : (n : List Float) (moles : ℕ → List Float) (a out : List Float) → moles 0 ≡ n → Upto 12 a (helmholtz b 1 t v moles) → out ≡ cut 12 (quotientOf a t) → Upto 12 out (energyOverT b t v n)
   unfolding energyOverT
   energy-over-t-law n moles a out em ea eo =
-      ap (take positions) eo
-      ∙ quotient-first positions a (helmholtz b 1 t v (λ i. n))
-      (ea ∙ helmholtz-cong positions 1 (omega arith) b t v moles (λ i. n) (λ i l. let z : i ≡ 0 = omega arith in ap (λ (k : ℕ). take positions (moles k)) z ∙ ap (take positions) em)) t t refl
+      let A = ea ∙ helmholtz-cong 12 1 (omega arith) b t v moles (λ i. n) (λ i l. let z : i ≡ 0 = omega arith in ap (λ (k : ℕ). take 12 (moles k)) z ∙ ap (take 12) em) in
+      div-upto 12 a (helmholtz b 1 t v (λ i. n)) out A t t refl eo
 
-  pub dmu-dn-law : (z : Float) (n a out : List Float) → n ≡ markedOf 1 z → Upto positions a (energyOverT b t v n) → out ≡ derivativeOf 2 a → out ≡ dmuDn b t v z
+  pub dmu-dn-law : (z : Float) (n a out : List Float) → n ≡ markedOf 1 z → Upto 12 a (energyOverT b t v n) → out ≡ derivativeOf 2 a → Upto 9 out (dmuDn b t v z)
   unfolding dmuDn
-  dmu-dn-law z n a out en ea eo = eo ∙ derivative-all 2 a (energyOverT b t v (markedOf 1 z)) (ea ∙ ap (λ (x : List Float). take positions (energyOverT b t v x)) en)
+  dmu-dn-law z n a out en ea eo =
+      ap (take 9) eo ∙ derivative-first 9 2 a (energyOverT b t v (markedOf 1 z)) (ea ∙ ap (λ (x : List Float). take 12 (energyOverT b t v x)) en)
 
-  pub eigenvalue-law : (z : Float) (n s q d m one out : List Float) → n ≡ numberOf z → s ≡ rootOf n → q ≡ productOf s s → d ≡ dmuDn b t v z → m ≡ productOf d q → one ≡ numberOf f1 → out ≡ sumOf m one → out ≡ eigenvalue b t v z
+  pub eigenvalue-law : (z : Float) (n s q d m one out : List Float) → n ≡ numberOf z → s ≡ cut 9 (rootOf n) → q ≡ cut 9 (productOf s s) → Upto 9 d (dmuDn b t v z) → m ≡ cut 9 (productOf d q) → one ≡ numberOf f1 → out ≡ sumOf m one → Upto 9 out (eigenvalue b t v z)
   unfolding eigenvalue
-  eigenvalue-law z n s q d m one out en es eq ed em e1 eo = rw (eo, em, ed, e1, eq, es, en)
+  eigenvalue-law z n s q d m one out en es eq ed em e1 eo =
+      let S = sqrt-upto 9 n (numberOf z) s (ap (take 9) en) es in
+      let Q = mul-upto 9 s _ q S s _ S eq in
+      let M = mul-upto 9 d _ m ed q _ Q em in
+      add-upto 9 m _ out M one (numberOf f1) (ap (take 9) e1) eo
 
-  pub third-derivative-law : (z : Float) (n a g s out : List Float) → n ≡ moved z → Upto positions a (energyOverT b t v n) → g ≡ idealGas n v → s ≡ sumOf a g → out ≡ derivativeOf 3 s → out ≡ thirdDerivative b t v z
+  pub third-derivative-law : (z : Float) (n a g s out : List Float) → n ≡ moved z → Upto 12 a (energyOverT b t v n) → Upto 12 g (idealGas n v) → s ≡ sumOf a g → out ≡ derivativeOf 3 s → Upto 9 out (thirdDerivative b t v z)
   unfolding thirdDerivative
   third-derivative-law z n a g s out en ea eg es eo =
-      eo
-      ∙ ap (derivativeOf 3) es
-      ∙ derivative-all 3 (sumOf a g) (sumOf (energyOverT b t v n) (idealGas n v)) (sum-first positions a (energyOverT b t v n) ea g (idealGas n v) (ap (take positions) eg))
-      ∙ ap (λ (x : List Float). derivativeOf 3 (sumOf (energyOverT b t v x) (idealGas x v))) en
+      ap (take 9) eo
+      ∙ derivative-first 9 3 s (sumOf (energyOverT b t v n) (idealGas n v)) (add-upto 12 a (energyOverT b t v n) s ea g (idealGas n v) eg es)
+      ∙ ap (λ (x : List Float). take 9 (derivativeOf 3 (sumOf (energyOverT b t v x) (idealGas x v)))) en
 
 pub moved-law : (z : Float) (n s one u e m out : List Float) → n ≡ numberOf z → s ≡ rootOf n → one ≡ numberOf f1 → u ≡ productOf s one → e ≡ markedOf 1 f0 → m ≡ productOf u e → out ≡ sumOf n m → out ≡ moved z
 unfolding moved
 moved-law z n s one u e m out en es e1 eu ee em eo = rw (eo, em, ee, eu, e1, es, en)
 
 module _ (n v : List Float) where
-  pub none-law : (zero out : List Float) → eq (at n 0) f0 ≡ true → zero ≡ numberOf f0 → out ≡ productOf n zero → out ≡ idealGas n v
+  pub none-law : (zero out : List Float) → eq (at n 0) f0 ≡ true → zero ≡ numberOf f0 → out ≡ cut 12 (productOf n zero) → Upto 12 out (idealGas n v)
   unfolding idealGas
-  none-law zero out h ez eo = rw (h, eo, ez)
+  none-law zero out h ez eo = rw h (mul-upto 12 n n out refl zero (numberOf f0) (ap (take 12) ez) eo)
 
-  pub some-law : (q l one d out : List Float) → eq (at n 0) f0 ≡ false → q ≡ quotientOf n v → l ≡ logarithmOf q → one ≡ numberOf f1 → d ≡ differenceOf l one → out ≡ productOf n d → out ≡ idealGas n v
+  pub some-law : (q l one d out : List Float) → eq (at n 0) f0 ≡ false → q ≡ cut 12 (quotientOf n v) → l ≡ cut 12 (logarithmOf q) → one ≡ numberOf f1 → d ≡ differenceOf l one → out ≡ cut 12 (productOf n d) → Upto 12 out (idealGas n v)
   unfolding idealGas
-  some-law q l one d out h eq el e1 ed eo = rw (h, eo, ed, el, eq, e1)
+  some-law q l one d out h eq el e1 ed eo =
+      let Q = div-upto 12 n n q refl v v refl eq in
+      let L = ln-upto 12 q _ l Q el in
+      let D = sub-upto 12 l _ d L one (numberOf f1) (ap (take 12) e1) ed in
+      rw h (mul-upto 12 n n out refl d _ D eo)
+
+module _ (b : Blend) (τ ρ : Float) (t r v : List Float) (er : r ≡ markedOf 8 ρ) (ev : v ≡ recipOf r) where
+  abbrev z : Float
+  z = nth (b .x) 0
+
+  abbrev volume : List Float
+  volume = recipOf (markedOf 8 ρ)
+
+  -- f at the temperature t and the volume v is f at those of the definition
+  here : (f : List Float → List Float → List Float) (t' x : List Float) → t ≡ t' → Upto 9 x (f t v) → Upto 9 x (f t' volume)
+  here f t' x et e = e ∙ ap (λ (y : List Float). take 9 (f y v)) et ∙ ap (λ (y : List Float). take 9 (f t' y)) (ev ∙ ap recipOf er)
+
+  pub criticality-law : (l c : List Float) → t ≡ markedOf 4 τ → Upto 9 l (eigenvalue b t v z) → Upto 9 c (thirdDerivative b t v z)
+      → _≡_ {A = Criticality} (record { l = at l 0; c2 = at c 0; «dl_dt» = at l 4; «dl_drho» = at l 8; «dc2_dt» = at c 4; «dc2_drho» = at c 8 }) (criticalityConditions b τ ρ)
+  unfolding criticalityConditions
+  criticality-law l c et el ec =
+      let L = here (λ x y. eigenvalue b x y z) (markedOf 4 τ) l et el in
+      let C = here (λ x y. thirdDerivative b x y z) (markedOf 4 τ) c et ec in
+      rw (coefficient-of 9 0 l (eigenvalue b (markedOf 4 τ) volume z) (omega arith) L, coefficient-of 9 4 l (eigenvalue b (markedOf 4 τ) volume z) (omega arith) L, coefficient-of 9 8 l (eigenvalue b (markedOf 4 τ) volume z) (omega arith) L, coefficient-of 9 0 c (thirdDerivative b (markedOf 4 τ) volume z) (omega arith) C, coefficient-of 9 4 c (thirdDerivative b (markedOf 4 τ) volume z) (omega arith) C, coefficient-of 9 8 c (thirdDerivative b (markedOf 4 τ) volume z) (omega arith) C)
+
+  pub stability-law : (l : List Float) → t ≡ numberOf τ → Upto 9 l (eigenvalue b t v z) → _≡_ {A = Stability} (record { f = at l 0; df = at l 8 }) (stabilityCondition b τ ρ)
+  unfolding stabilityCondition
+  stability-law l et el =
+      let L = here (λ x y. eigenvalue b x y z) (numberOf τ) l et el in
+      rw (coefficient-of 9 0 l (eigenvalue b (numberOf τ) volume z) (omega arith) L, coefficient-of 9 8 l (eigenvalue b (numberOf τ) volume z) (omega arith) L)

@@ -1,6 +1,7 @@
 // The evaluations of state/critical_point.rs for one component: the first of the blend, with its fraction.
+// They read positions 0, 4 and 8 of derivatives by e0, the highest of which comes from position 8 + 3. So twelve positions
+// of the energy are enough, and nine of its derivatives.
 ghost use mathlib.Core.Path.{_≡_};
-ghost use Rattle.jet.specs.Positions.{positions};
 ghost use Rattle.jet.specs.Coefficients.{Upto};
 ghost use Rattle.eos.specs.Critical.{energyOverT, dmuDn, eigenvalue as eigenvalueOf, moved as movedOf, idealGas, thirdDerivative, criticalityConditions, stabilityCondition};
 use crate::residual::helmholtz;
@@ -10,26 +11,26 @@ use crate::types::Stability;
 use jet::Jet;
 
 fn energy_over_t(blend: Blend, t: Jet, v: Jet, n: Jet) -> Jet
-    ensures { λ r. ⌜ Upto positions (r .c) (energyOverT blend (t .c) (v .c) (n .c)) ⌝ }
+    ensures { λ r. ⌜ Upto 12 (r .c) (energyOverT blend (t .c) (v .c) (n .c)) ⌝ }
 {
     let moles = [n; 8];
-    let a = helmholtz(16, 1, blend, t, v, moles);
-    jet::div(a, t)
+    let a = helmholtz(12, 1, blend, t, v, moles);
+    jet::div_to(12, a, t)
 }
 
 fn dmu_dn(blend: Blend, t: Jet, v: Jet, z: f64) -> Jet
-    ensures { λ r. ⌜ r .c ≡ dmuDn blend (t .c) (v .c) z ⌝ }
+    ensures { λ r. ⌜ Upto 9 (r .c) (dmuDn blend (t .c) (v .c) z) ⌝ }
 {
     jet::derivative(2, energy_over_t(blend, t, v, jet::marked(1, z)))
 }
 
 // The smallest eigenvalue of M, which is M itself for one component.
 fn eigenvalue(blend: Blend, t: Jet, v: Jet, z: f64) -> Jet
-    ensures { λ r. ⌜ r .c ≡ eigenvalueOf blend (t .c) (v .c) z ⌝ }
+    ensures { λ r. ⌜ Upto 9 (r .c) (eigenvalueOf blend (t .c) (v .c) z) ⌝ }
 {
-    let sqrt_z = jet::sqrt(jet::number(z));
-    let z_mix = jet::mul(sqrt_z, sqrt_z);
-    let m = jet::mul(dmu_dn(blend, t, v, z), z_mix);
+    let sqrt_z = jet::sqrt_to(9, jet::number(z));
+    let z_mix = jet::mul_to(9, sqrt_z, sqrt_z);
+    let m = jet::mul_to(9, dmu_dn(blend, t, v, z), z_mix);
     jet::add(m, jet::number(1.0))
 }
 
@@ -43,18 +44,18 @@ fn moved(z: f64) -> Jet
 }
 
 fn ideal_gas(n: Jet, v: Jet) -> Jet
-    ensures { λ r. ⌜ r .c ≡ idealGas (n .c) (v .c) ⌝ }
+    ensures { λ r. ⌜ Upto 12 (r .c) (idealGas (n .c) (v .c)) ⌝ }
 {
     let c = n.c;
     if c[0] == 0.0 {
-        return jet::mul(n, jet::number(0.0));
+        return jet::mul_to(12, n, jet::number(0.0));
     }
-    let l = jet::ln(jet::div(n, v));
-    jet::mul(n, jet::sub(l, jet::number(1.0)))
+    let l = jet::ln_to(12, jet::div_to(12, n, v));
+    jet::mul_to(12, n, jet::sub(l, jet::number(1.0)))
 }
 
 fn third_derivative(blend: Blend, t: Jet, v: Jet, z: f64) -> Jet
-    ensures { λ r. ⌜ r .c ≡ thirdDerivative blend (t .c) (v .c) z ⌝ }
+    ensures { λ r. ⌜ Upto 9 (r .c) (thirdDerivative blend (t .c) (v .c) z) ⌝ }
 {
     let n = moved(z);
     let a = energy_over_t(blend, t, v, n);

@@ -9,7 +9,7 @@ use mathlib.Core.List.{List, [], _∷_, _++_, append-nil}
 use lib.ListN.{take, replicate, length-take}
 use lib.Seq.{ext-getD, getD-take, take-at, take-take, length-take-le}
 use lib.Dec.{leb, eqb}
-use borrow.Author.Tests.{leb-true, leb-false, eqb-true}
+use borrow.Author.Tests.{leb-true, leb-false}
 use lib.Ieee.{Float, nan}
 use Rattle.float.specs.Ops.{_⊕_, _⊖_, _⊗_, _⊘_, f0, f2}
 use Rattle.float.specs.Root.{root}
@@ -157,24 +157,21 @@ take-cut n f = go (leb n positions) refl
         let z : positions - n ≡ 0 = omega arith in
         rw (z, append-nil, take-take n n (build f positions) (omega arith))
 
--- ---- a derivative by e0, from all coefficients
+-- ---- a derivative by e0: its first n coefficients need three more of its operand
 
-derivative-at : (k : ℕ) (a b c d : List Float) (m : ℕ) → m < positions → take positions a ≡ take positions b → derivativeAt k a c m ≡ derivativeAt k b d m
+derivative-at : (n k : ℕ) (a b c d : List Float) (m : ℕ) → m < n → take (n + 3) a ≡ take (n + 3) b → derivativeAt k a c m ≡ derivativeAt k b d m
 unfolding derivativeAt
-derivative-at k a b c d m h e = go (leb k 3) refl (eqb (m % 4) 0) refl
+derivative-at n k a b c d m h e = go (leb k 3) refl (eqb (m % 4) 0)
   where
-    go : (x : Bool) → leb k 3 ≡ x → (y : Bool) → eqb (m % 4) 0 ≡ y → cond (x && y) (factorialOf k ⊗ at a (m + k)) f0 ≡ cond (x && y) (factorialOf k ⊗ at b (m + k)) f0
-    go true p true q =
+    go : (x : Bool) → leb k 3 ≡ x → (y : Bool) → cond (x && y) (factorialOf k ⊗ at a (m + k)) f0 ≡ cond (x && y) (factorialOf k ⊗ at b (m + k)) f0
+    go true p true =
         let l = leb-true k 3 p in
-        let z = eqb-true (m % 4) 0 q in
-        ap (λ (v : Float). factorialOf k ⊗ v) (taken positions (m + k) a b e (omega arith))
-    go true p false q = refl
-    go false p y q = refl
+        ap (λ (v : Float). factorialOf k ⊗ v) (taken (n + 3) (m + k) a b e (omega arith))
+    go true p false = refl
+    go false p y = refl
 
-pub derivative-all : (k : ℕ) (a b : List Float) → take positions a ≡ take positions b → derivativeOf k a ≡ derivativeOf k b
+pub derivative-first : (n k : ℕ) (a b : List Float) → take (n + 3) a ≡ take (n + 3) b → take n (derivativeOf k a) ≡ take n (derivativeOf k b)
 unfolding derivativeOf
-derivative-all k a b e =
-    ext-getD nan (build (derivativeAt k a) positions) (build (derivativeAt k b) positions) (length-build (derivativeAt k a) positions ∙ sym (length-build (derivativeAt k b) positions))
-    (λ m l.
-    let h : m < positions = rw (length-build (derivativeAt k a) positions) at l in
-    build-at (derivativeAt k a) positions m h ∙ derivative-at k a b _ _ m h e ∙ sym (build-at (derivativeAt k b) positions m h))
+derivative-first n k a b e =
+    take-ext (derivativeAt k a) (derivativeAt k b) n
+    (λ m h l. build-at (derivativeAt k a) positions m l ∙ derivative-at n k a b _ _ m h e ∙ sym (build-at (derivativeAt k b) positions m l))

@@ -1,6 +1,5 @@
 -- `eos::critical_point::criticality_conditions` meets its contract. Assumes nothing.
-use mathlib.Core.Path.{refl}
-use Rattle.eos.specs.Critical.{criticalityConditions}
+use Rattle.eos.proofs.Evaluations.{criticality-law}
 use borrow.Author.Needs.{needs}
 use Rattle.eos.proofs.critical_point.criticality_conditions.Statement.{statement}
 use Rattle.eos.proofs.critical_point.criticality_conditions.Tie as tie
@@ -45,8 +44,9 @@ array-read-t33 : tie.Need-array-read-t33
 array-read-t33 c = search needs
 
 returns : tie.Need-returns
-unfolding criticalityConditions
-returns c = rw (c .before .before .third-derivative .ensures, c .before .before .before .eigenvalue .ensures, c .before .before .before .before .before .recip .ensures, c .before .before .before .before .before .before .marked2 .ensures, c .before .before .before .before .before .before .before .marked .ensures)
+returns c =
+    let a = c .before .before .before .before .before .before .before .before .args in
+    criticality-law (a .blend) (a .temperature) (a .density) _ _ _ (c .before .before .before .before .before .before .marked2 .ensures) (c .before .before .before .before .before .recip .ensures) (c .before .before .before .eigenvalue .result .c) (c .before .before .third-derivative .result .c) (c .before .before .before .before .before .before .before .marked .ensures) (c .before .before .before .eigenvalue .ensures) (c .before .before .third-derivative .ensures)
 
 pub criticality-conditions-spec : {M : Type 1} → statement M
 criticality-conditions-spec =

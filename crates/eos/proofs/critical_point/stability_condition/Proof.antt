@@ -1,6 +1,5 @@
 -- `eos::critical_point::stability_condition` meets its contract. Assumes nothing.
-use mathlib.Core.Path.{refl}
-use Rattle.eos.specs.Critical.{stabilityCondition}
+use Rattle.eos.proofs.Evaluations.{stability-law}
 use borrow.Author.Needs.{needs}
 use Rattle.eos.proofs.critical_point.stability_condition.Statement.{statement}
 use Rattle.eos.proofs.critical_point.stability_condition.Tie as tie
@@ -27,8 +26,9 @@ array-read-t16 : tie.Need-array-read-t16
 array-read-t16 c = search needs
 
 returns : tie.Need-returns
-unfolding stabilityCondition
-returns c = rw (c .before .eigenvalue .ensures, c .before .before .number .ensures, c .before .before .before .before .recip .ensures, c .before .before .before .before .before .marked .ensures)
+returns c =
+    let a = c .before .before .before .before .before .before .args in
+    stability-law (a .blend) (a .temperature) (a .density) _ _ _ (c .before .before .before .before .before .marked .ensures) (c .before .before .before .before .recip .ensures) (c .before .eigenvalue .result .c) (c .before .before .number .ensures) (c .before .eigenvalue .ensures)
 
 pub stability-condition-spec : {M : Type 1} → statement M
 stability-condition-spec =

@@ -1,0 +1,92 @@
+#!/usr/bin/env python3
+"""Makes crates/eos_vectors/stdin and stdout: single evaluations, and what the oracle makes of them.
+
+usage: tools/eos_vectors.py [ORACLE]      run at the project's root; ORACLE is oracle/target/release/oracle by default
+
+stdin: the oracle's own evaluations (--evals); each evaluation on blends of 1 to 8 real fluids; the evaluations in turn on
+every pair of a special temperature and a special density; and each at the covolume, where the repulsive term divides
+by about zero.
+stdout: the lines of `oracle --evals-run`.
+"""
+import random
+import struct
+import subprocess
+import sys
+
+EVALUATIONS = range(1, 6)
+
+# critical temperature in K, critical pressure in Pa, acentric factor
+FLUIDS = [
+    (190.56, 4599000.0, 0.0115),  # methane
+    (305.32, 4872000.0, 0.0995),  # ethane
+    (369.83, 4248000.0, 0.1523),  # propane
+    (425.12, 3796000.0, 0.2002),  # n-butane
+    (126.20, 3400000.0, 0.0377),  # nitrogen
+    (304.21, 7383000.0, 0.2236),  # carbon dioxide
+    (647.10, 22064000.0, 0.3449),  # water
+    (33.19, 1313000.0, -0.2160),  # hydrogen
+]
+
+INFINITY = float("inf")
+NAN = float("nan")
+TEMPERATURES = [300.0, 0.0, -0.0, -300.0, 5e-324, 1e308, INFINITY, NAN]
+DENSITIES = [0.003, 0.0, -0.0, -0.003, 5e-324, 1e308, INFINITY, -INFINITY, NAN]
+
+
+def record(evaluation, fluids, interactions, fractions, temperature, density):
+    numbers = [x for fluid in fluids for x in fluid] + interactions + fractions + [temperature, density]
+    return bytes([evaluation, len(fluids)]) + struct.pack(f"<{len(numbers)}d", *numbers)
+
+
+def covolume(fluid):
+    return 0.07780 * 13806490.0 * (fluid[0] / fluid[1])
+
+
+def own_evaluations(rng):
+    for n in range(1, 9):
+        for evaluation in EVALUATIONS:
+            for _ in range(2):
+                fluids = rng.sample(FLUIDS, n)
+                interactions = [rng.uniform(-0.1, 0.2) for _ in range(n * (n - 1) // 2)]
+                fractions = [rng.uniform(0.01, 1.0) for _ in range(n)]
+                b = sum(x * covolume(f) for x, f in zip(fractions, fluids)) / sum(fractions)
+                yield record(evaluation, fluids, interactions, fractions, rng.uniform(100.0, 700.0), rng.uniform(0.01, 0.95) / b)
+    for i, (temperature, density) in enumerate((t, rho) for t in TEMPERATURES for rho in DENSITIES):
+        yield record(1 + i % 5, FLUIDS[:2], [0.01], [0.4, 0.6], temperature, density)
+    for evaluation in EVALUATIONS:
+        for fluid in FLUIDS:
+            yield record(evaluation, [fluid], [], [1.0], fluid[0], 1.0 / covolume(fluid))
+
+
+def split(records):
+    """The bytes of each evaluation."""
+    at = 0
+    while at < len(records):
+        n = records[at + 1]
+        size = 2 + 24 * n + 4 * n * (n - 1) + 8 * n + 16
+        yield records[at : at + size]
+        at += size
+
+
+def main():
+    oracle = sys.argv[1] if len(sys.argv) > 1 else "oracle/target/release/oracle"
+    drawn = subprocess.run([oracle, "--evals", "4", "1000"], check=True, capture_output=True).stdout
+    records = list(split(drawn)) + list(own_evaluations(random.Random(4)))
+    lines = subprocess.run([oracle, "--evals-run"], input=b"".join(records), check=True, capture_output=True).stdout
+    assert len(lines.splitlines()) == len(records)
+    with open("crates/eos_vectors/stdin", "wb") as f:
+        f.write(b"".join(records))
+    with open("crates/eos_vectors/stdout", "wb") as f:
+        f.write(lines)
+
+    finite = {e: 0 for e in EVALUATIONS}
+    count = {e: 0 for e in EVALUATIONS}
+    for r, line in zip(records, lines.decode().splitlines()):
+        count[r[0]] += 1
+        finite[r[0]] += all(int(word, 16) >> 52 & 0x7FF != 0x7FF for word in line.split())
+    print(len(records), "evaluations")
+    for e in EVALUATIONS:
+        print(f"evaluation {e}: {count[e]}, of which {finite[e]} yield finite numbers only")
+
+
+main()
