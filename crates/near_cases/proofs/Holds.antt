@@ -6,7 +6,8 @@ use Rattle.float.specs.Root.{isqrtIn, isqrt, sticky, rootOf as floatRootOf, roo
 use Rattle.float.specs.Ln.{oddRecip, horner, series, reducedLn, lnAt, lnUnits, lnOf}
 use Rattle.jet.specs.Positions.{notAbove, among, pairsOf, before, between, weightOf}
 use Rattle.jet.specs.Coefficients.{build, numberOf, markedOf, less, quotientAt, quotientOf, recipOf, rootAt, rootOf, logarithmAt, logarithmOf}
-use Rattle.near_cases.specs.NearCases.{FloatCases, JetCases, NearCases}
+use Rattle.schedule.specs.Schedule.{submitVerdict, verdict, put, entered, submitted, acts, judged, happens, events, fresh}
+use Rattle.near_cases.specs.NearCases.{FloatCases, JetCases, submits, BoardCases, NearCases}
 
 float-cases : FloatCases
 unfolding root floatRootOf sticky isqrt isqrtIn lnOf lnUnits lnAt reducedLn series horner oddRecip above ofBits ofInt neg size round add sub mul div le
@@ -27,5 +28,14 @@ jet-cases = record {
   ln-of-1-plus-e0 = refl;
 }
 
+board-cases : BoardCases
+unfolding submits events fresh happens judged verdict submitVerdict acts submitted put entered
+board-cases = record {
+  eighth-accepted = refl;
+  ninth-4 = refl;
+  n-8-accepted = refl;
+  n-9-refused-3 = refl;
+}
+
 pub near-cases : NearCases
-near-cases = record { floats = float-cases; jets = jet-cases }
+near-cases = record { floats = float-cases; jets = jet-cases; board = board-cases }

@@ -1,14 +1,15 @@
 -- Document 01's near cases that are marked M, as one list: a record for each layer, and `NearCases` of all. They speak of the definitions.
-use Prim.Native.Nat.{_-_}
+use Prim.Native.Nat.{ℕ, zero, suc, _-_}
 use mathlib.Core.Path.{_≡_}
 use mathlib.Core.Bool.{false}
-use mathlib.Core.List.{List, _∷_}
+use mathlib.Core.List.{List, [], _∷_}
 use lib.ListN.{replicate}
 use lib.IntN.{ℤ, pos, negsuc}
 use lib.Ieee.{Float, fin, neg, binary64, ofBits}
 use Rattle.float.specs.Ops.{f0, f1, f2}
 use Rattle.float.specs.Root.{root}
 use Rattle.float.specs.Ln.{ln2, lnOf}
+use Rattle.schedule.specs.Schedule.{Call, Submit, Event, refused, accepted, events, fresh}
 use Rattle.jet.specs.Positions.{positions}
 use Rattle.jet.specs.Coefficients.{markedOf, recipOf, rootOf, logarithmOf}
 
@@ -39,7 +40,23 @@ pub record JetCases : Type 0 where
   pub root-of-1-plus-e0 : rootOf one-plus-e0 ≡ in-e0 f1 (twoTo (negsuc 0)) (neg (twoTo (negsuc 2))) (twoTo (negsuc 3))
   pub ln-of-1-plus-e0 : logarithmOf one-plus-e0 ≡ in-e0 f0 f1 (neg (twoTo (negsuc 0))) (ofBits binary64 0x3FD5555555555555)
 
+-- what a run of n submits of the same kind, N and block size to queue 0 of a fresh board does; demand 3 says that the board replies so
+unfoldable pub submits : (times kind n size : ℕ) → List (Event ℕ)
+submits times kind n size = events (λ m. m) fresh (again times)
+  where
+    again : ℕ → List (Call ℕ)
+    again zero = []
+    again (suc k) = Submit 0 kind n size ∷ again k
+
+-- "eighth job accepted, ninth 4." "N of 8 accepted, 9 refused 3."
+pub record BoardCases : Type 0 where
+  pub eighth-accepted : submits 8 1 1 640 ≡ accepted 0 ∷ accepted 1 ∷ accepted 2 ∷ accepted 3 ∷ accepted 4 ∷ accepted 5 ∷ accepted 6 ∷ accepted 7 ∷ []
+  pub ninth-4 : submits 9 1 1 640 ≡ accepted 0 ∷ accepted 1 ∷ accepted 2 ∷ accepted 3 ∷ accepted 4 ∷ accepted 5 ∷ accepted 6 ∷ accepted 7 ∷ refused 4 ∷ []
+  pub n-8-accepted : submits 1 1 8 640 ≡ accepted 0 ∷ []
+  pub n-9-refused-3 : submits 1 1 9 640 ≡ refused 3 ∷ []
+
 -- A layer above adds its record here.
 pub record NearCases : Type 0 where
   pub floats : FloatCases
   pub jets : JetCases
+  pub board : BoardCases

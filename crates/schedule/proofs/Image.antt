@@ -1,14 +1,13 @@
 -- A schedule looks at blocks and buffers through their size alone: a run of the same calls over other blocks and buffers of the same sizes
 -- has the same events but for these. Assumes nothing.
-use mathlib.Core.Path.{_≡_, refl, sym, ap, _∙_}
-use Prim.Native.Nat.{ℕ, _+_, _%_, _^_}
-use mathlib.Core.Bool.{Bool, true, false, cond}
+use mathlib.Core.Path.{_≡_, refl, ap, _∙_}
+use Prim.Native.Nat.{ℕ, _+_}
+use mathlib.Core.Bool.{Bool, true, false}
 use mathlib.Core.List.{List, [], _∷_, _++_, map}
-use mathlib.Core.Option.{Option, none, some}
-use lib.ListN.{length, length-map}
+use lib.ListN.{length-map}
 use lib.Dec.{eqb}
 use Rattle.schedule.specs.Spans.{spanOf}
-use Rattle.schedule.specs.Schedule.{Held, Queue, Schedule, Call, Submit, Turn, Look, Event, refused, accepted, served, looked, Verdict, accept, refuse, submitVerdict, turnVerdict, lookVerdict, turnsOf, verdict, serves, onward, Undergone, turned, undergo, put, entered, withJobs, Happened, lookedAt, submitted, turnTaken, acts, judged, happens, events, mapHeld, mapCall, mapOut, mapEvent, fresh}
+use Rattle.schedule.specs.Schedule.{Held, Queue, Schedule, Call, Submit, Turn, Look, Event, Verdict, accept, refuse, turnsOf, verdict, serves, onward, turned, undergo, put, entered, withJobs, Happened, lookedAt, submitted, turnTaken, acts, judged, happens, events, mapHeld, mapCall, mapOut, mapEvent, fresh}
 
 module _ {D E : Type 0} (f : D → E) where
   abbrev pub mapJobs : List (Held D) → List (Held E)

@@ -1,3 +1,4 @@
+pub mod Tests
 pub mod Image
 pub mod Never
 pub mod Rounds

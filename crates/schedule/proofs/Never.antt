@@ -1,13 +1,13 @@
 -- A schedule never refuses by 6. Assumes nothing.
-use mathlib.Core.Path.{_≡_, refl}
+use mathlib.Core.Path.{_≡_}
 use Prim.Native.Nat.{ℕ}
-use mathlib.Core.Bool.{Bool, true, false, cond, _&&_}
+use mathlib.Core.Bool.{Bool, true, false}
 use mathlib.Core.List.{List, [], _∷_}
 use native.Mathlib.Omega.{arith}
 use lib.ListN.{length}
 use lib.Dec.{leb, ltb, eqb}
 use Rattle.schedule.specs.Spans.{kindFits, countFits}
-use Rattle.schedule.specs.Schedule.{Held, Schedule, Call, Submit, Turn, Look, Event, refused, accepted, served, looked, Verdict, accept, refuse, check, submitVerdict, turnVerdict, lookVerdict, turnsOf, verdict, lookedAt, submitted, turnTaken, acts, judged, happens}
+use Rattle.schedule.specs.Schedule.{Held, Schedule, Call, Submit, Turn, Look, refused, Verdict, accept, refuse, check, submitVerdict, turnVerdict, lookVerdict, turnsOf, verdict, lookedAt, submitted, turnTaken, acts, judged, happens}
 
 not-6 : (v : Verdict) → Type 0
 not-6 v = v ≡ refuse 6 → ⊥

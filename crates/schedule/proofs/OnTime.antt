@@ -1,29 +1,18 @@
 -- A job is handed out in the turn of its queue that completes what the jobs before it and then itself still need, and in no other. Assumes nothing.
 use mathlib.Core.Path.{_≡_, refl, sym, ap, _∙_, subst}
-use Prim.Native.Nat.{ℕ, zero, suc, _+_, _-_, _%_, _^_, _≤_, _<_}
-use mathlib.Core.Bool.{Bool, true, false, cond}
+use Prim.Native.Nat.{ℕ, _+_, _%_, _^_, _≤_, _<_}
+use mathlib.Core.Bool.{Bool, true, false}
 use mathlib.Core.List.{List, [], _∷_, _++_, append-assoc, append-nil}
 use mathlib.Core.Option.{Option, none, some}
 use native.Mathlib.Omega.{arith}
-use lib.ListN.{length, length-append}
+use lib.ListN.{length}
 use lib.Dec.{eqb}
 use borrow.Author.Tests.{eqb-true, eqb-false, eq-eqb, ne-eqb}
 use Rattle.schedule.specs.Spans.{spanOf}
-use Rattle.schedule.specs.Schedule.{Held, Queue, Schedule, Call, Submit, Turn, Look, Event, refused, accepted, served, looked, Verdict, accept, refuse, verdict, serves, onward, Undergone, turned, undergo, put, entered, withJobs, lookedAt, submitted, turnTaken, acts, judged, happens, events, afterAll, fresh}
-use Rattle.schedule.specs.History.{times, queuesServed, asAccepted, ifQueue, handedOut, handedBy, handedIn, left, work, finished}
+use Rattle.schedule.specs.Schedule.{Held, Queue, Schedule, Call, Submit, Turn, Look, Event, refused, accepted, served, looked, Verdict, accept, refuse, verdict, serves, Undergone, turned, undergo, put, entered, withJobs, lookedAt, submitted, turnTaken, acts, judged, happens, events, afterAll}
+use Rattle.schedule.specs.History.{times, queuesServed, ifQueue, handedOut, handedBy, handedIn, left, work, finished}
 use Rattle.schedule.proofs.Order.{ne-sym}
-
-pub span-large : (kind : ℕ) → 30 ≤ spanOf kind
-unfolding spanOf
-span-large kind = go (eqb kind 1) (eqb kind 2) (eqb kind 3) (eqb kind 4) (eqb kind 5)
-  where
-    go : (a b c d e : Bool) → 30 ≤ cond a 3101 (cond b 6204 (cond c 30 (cond d 30 (cond e 150 250))))
-    go true b c d e = omega arith
-    go false true c d e = omega arith
-    go false false true d e = omega arith
-    go false false false true e = omega arith
-    go false false false false true = omega arith
-    go false false false false false = omega arith
+use Rattle.schedule.proofs.Tests.{span-within}
 
 module _ {D : Type 0} where
   -- no job held has had all its turns
@@ -76,7 +65,7 @@ module _ {D : Type 0} where
       let z : q ≡ queue = eqb-true q queue e in
       let none : (o : Option (Held D)) → _≡_ {A = Event D} (accepted ticket) (served q o) → ⊥ = λ o x. (let z : _≡_ {A = ℕ} 0 1 = cc in omega arith) in
       let j : Held D = record { kind = kind; n = n; block = block; ticket = g q .count % 2 ^ 64; turns = 0 } in
-      simp (e, ← z) (more (j ∷ []) (λ es. refl) refl none (and-open j [] (omega (arith, span-large kind)) none-held))
+      simp (e, ← z) (more (j ∷ []) (λ es. refl) refl none (and-open j [] (omega (arith, span-within kind .low)) none-held))
   submit-change q queue kind n ticket block g false e =
       simp e (same-jobs q (g q .jobs) (accepted ticket) (λ es. refl) refl (λ o x. let z : _≡_ {A = ℕ} 0 1 = cc in omega arith))
 

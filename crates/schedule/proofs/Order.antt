@@ -1,13 +1,13 @@
 -- The jobs handed out of a queue, in order, and then those still held are the jobs accepted, in order. Assumes nothing.
 use mathlib.Core.Path.{_≡_, refl, sym, ap, _∙_}
 use Prim.Native.Nat.{ℕ, _+_, _%_, _^_}
-use mathlib.Core.Bool.{Bool, true, false, cond}
+use mathlib.Core.Bool.{Bool, true, false}
 use mathlib.Core.List.{List, [], _∷_, _++_, append-assoc, append-nil}
 use mathlib.Core.Option.{Option, none, some}
 use lib.Dec.{eqb}
 use borrow.Author.Tests.{eqb-true, eqb-false, eq-eqb}
 use Rattle.schedule.specs.Spans.{spanOf}
-use Rattle.schedule.specs.Schedule.{Held, Queue, Schedule, Call, Submit, Turn, Look, Event, refused, accepted, served, looked, Verdict, accept, refuse, verdict, serves, onward, Undergone, turned, undergo, put, entered, withJobs, lookedAt, submitted, turnTaken, acts, judged, happens, events, afterAll}
+use Rattle.schedule.specs.Schedule.{Held, Schedule, Call, Submit, Turn, Look, Event, refused, accepted, Verdict, accept, refuse, verdict, serves, turned, undergo, put, entered, withJobs, lookedAt, submitted, turnTaken, acts, judged, happens, events, afterAll}
 use Rattle.schedule.specs.History.{asAccepted, allAsAccepted, ifQueue, acceptedBy, acceptedIn, handedOut, handedBy, handedIn}
 
 pub ne-sym : (q s : ℕ) → eqb s q ≡ false → eqb q s ≡ false

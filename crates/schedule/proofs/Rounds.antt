@@ -1,13 +1,12 @@
 -- Any four successive accepted turns serve each queue once. Assumes nothing.
-use mathlib.Core.Path.{_≡_, refl, sym, ap, _∙_}
-use Prim.Native.Nat.{ℕ, zero, suc, _+_, _≤_, _<_}
-use mathlib.Core.Bool.{Bool, true, false, cond}
+use mathlib.Core.Path.{_≡_, refl, ap, _∙_}
+use Prim.Native.Nat.{ℕ, zero, suc, _≤_}
+use mathlib.Core.Bool.{Bool, true, false}
 use mathlib.Core.List.{List, [], _∷_, _++_}
 use native.Mathlib.Omega.{arith}
-use lib.ListN.{length}
 use lib.Dec.{eqb}
-use borrow.Author.Tests.{eqb-true, eqb-false}
-use Rattle.schedule.specs.Schedule.{Held, Schedule, Call, Submit, Turn, Look, Event, refused, accepted, served, looked, Verdict, accept, refuse, verdict, serves, onward, lookedAt, submitted, turnTaken, acts, judged, happens, events}
+use borrow.Author.Tests.{eqb-false}
+use Rattle.schedule.specs.Schedule.{Held, Schedule, Call, Submit, Turn, Look, Event, Verdict, accept, refuse, verdict, serves, onward, lookedAt, submitted, turnTaken, acts, judged, happens, events}
 use Rattle.schedule.specs.History.{times, queuesServed}
 
 -- the list goes round from t

@@ -1,7 +1,7 @@
 -- Document 01's schedule of a run, "worked from the calls' arguments alone". Blocks and buffers are of any type D with a size:
 -- D is a list of bytes for the run itself, and a number, the size alone, for what the public fields tell. Definitions only.
 use Prim.Native.Nat.{ℕ, _+_, _%_, _^_}
-use mathlib.Core.Bool.{Bool, false, cond}
+use mathlib.Core.Bool.{Bool, cond}
 use mathlib.Core.List.{List, [], _∷_, _++_}
 use mathlib.Core.Option.{Option, none, some}
 use lib.ListN.{length}

@@ -21,7 +21,6 @@ use Rattle.solver_critical_step.specs.declared.types.HkmPlace.{HkmPlace}
 use Rattle.solver_critical_step.specs.declared.types.HkmPlace.the-variants as Hkm
 use Rattle.solver_critical_step.specs.declared.types.CriticalSpot.{CriticalSpot}
 use Rattle.solver_critical_step.specs.declared.types.CriticalSpot.the-variants.{Given, Trial}
-use Rattle.solver_critical_step.specs.declared.types.CriticalPlace.{CriticalPlace}
 use Rattle.solver_critical_step.specs.CriticalStep.{hkmOn, hkmStart, resumeHkm, hkmLeft, hkmNext, criticalAt, givenOn, trialAt, trialOn, criticalBegin, resumeCritical, criticalLeft, criticalNext}
 
 module _ (maxdensity : Float) where

@@ -2,5 +2,4 @@ pub mod CriticalLaw
 pub mod SpinodalsLaw
 pub mod Places
 pub mod Ranges
-pub mod Steps
 pub mod StoredBack

@@ -3,7 +3,6 @@ use mathlib.Core.Path.{_≡_, refl, sym, ap, _∙_}
 use Prim.Native.Nat.{ℕ, zero, suc}
 use lib.Ieee.{Float}
 use Rattle.float.specs.Sign.{finiteOf}
-use Rattle.solver.specs.declared.types.Answer.{Answer}
 use Rattle.solver.specs.declared.types.Answer.the-variants.{Found, Refused}
 use Rattle.solver.specs.Search.{Evaluator, Search, bind, onFound, andThen, settle, nextOf, stability}
 use Rattle.solver.proofs.Steps.{settle-bind, moved, next-bind}
@@ -20,8 +19,7 @@ use Rattle.solver_critical_step.specs.declared.types.StabilityPlace.{Sta
 use Rattle.solver_critical_step.specs.declared.types.StabilityPlace.the-variants as Stability
 use Rattle.solver_critical_step.specs.declared.types.SpinodalsSpot.{SpinodalsSpot}
 use Rattle.solver_critical_step.specs.declared.types.SpinodalsSpot.the-variants.{CriticalSearch, VaporSpinodal, LiquidSpinodal}
-use Rattle.solver_critical_step.specs.declared.types.SpinodalsPlace.{SpinodalsPlace}
-use Rattle.solver_critical_step.specs.CriticalStep.{criticalAt, criticalBegin, resumeCritical, criticalLeft, criticalNext}
+use Rattle.solver_critical_step.specs.CriticalStep.{criticalAt, criticalBegin, resumeCritical, criticalLeft}
 use Rattle.solver_critical_step.specs.SpinodalsStep.{stabilityOn, stabilityStart, resumeStability, stabilityLeft, stabilityNext, spinodalsAt, liquidOn, vaporOn, criticalOn, spinodalsBegin, resumeSpinodals, spinodalsLeft, spinodalsNext}
 use Rattle.solver_critical_step.proofs.CriticalLaw.{critical-law, critical-asks, critical-begins}
 

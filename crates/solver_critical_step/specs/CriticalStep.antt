@@ -9,7 +9,6 @@ use Rattle.solver.specs.declared.types.Answer.the-variants.{Found, Refused}
 use Rattle.solver.specs.Search.{Evaluator, Search, done, bind, criticality}
 use Rattle.solver_critical.specs.declared.types.Start.{Start}
 use Rattle.solver_critical.specs.declared.types.Start.the-variants as Start
-use Rattle.solver_critical.specs.declared.types.Point.{Point}
 use Rattle.solver_critical.specs.declared.types.CriticalOutcome.{CriticalOutcome}
 use Rattle.solver_critical.specs.declared.types.CriticalOutcome.the-variants.{End, Next}
 use Rattle.solver_critical.specs.CriticalPoint.{orElse, trialTemperatures, trialTemperature, hkmFrom, trials}

@@ -1,4 +1,3 @@
 pub mod CriticalStep
 pub mod SpinodalsStep
 pub mod Stored
-pub mod Step

@@ -1,7 +1,6 @@
 // The searches of kinds 5 and 6, one evaluation at a time.
 mod critical;
 mod spinodals;
-mod state;
 mod stored;
 mod types;
 
@@ -11,21 +10,15 @@ pub use crate::critical::critical_next;
 pub use crate::spinodals::spinodals_at;
 pub use crate::spinodals::spinodals_begin;
 pub use crate::spinodals::spinodals_next;
-pub use crate::state::critical_start;
-pub use crate::state::spinodals_start;
-pub use crate::state::step;
 pub use crate::stored::critical_numbers;
 pub use crate::stored::critical_place_by;
 pub use crate::stored::spinodals_numbers;
 pub use crate::stored::spinodals_place_by;
-pub use crate::types::Conditions;
 pub use crate::types::CriticalPlace;
 pub use crate::types::CriticalSpot;
 pub use crate::types::HkmPlace;
 pub use crate::types::HkmSpot;
-pub use crate::types::Place;
 pub use crate::types::SpinodalsPlace;
 pub use crate::types::SpinodalsSpot;
 pub use crate::types::StabilityPlace;
 pub use crate::types::StabilitySpot;
-pub use crate::types::State;

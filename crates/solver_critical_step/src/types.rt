@@ -47,25 +47,3 @@ pub enum SpinodalsPlace {
     Ended(Answer),
     At(SpinodalsSpot),
 }
-
-// What stays the same throughout a search: the temperature of kind 6, and the density that each trial of kind 5
-// starts from.
-pub struct Conditions {
-    pub maxdensity: f64,
-    pub temperature: f64,
-    pub start: f64,
-}
-
-// The end, or a place of kind 5 or 6 that asks.
-pub enum Place {
-    Ended(Answer),
-    Critical(CriticalSpot),
-    Spinodals(SpinodalsSpot),
-}
-
-// A search under way: where it stands, the evaluations made and the density of the latest one.
-pub struct State {
-    pub place: Place,
-    pub evaluations: u64,
-    pub latest: f64,
-}

@@ -1,0 +1,5 @@
+pub mod Bytes
+pub mod Queue
+pub mod Sim
+pub mod Runs
+pub mod Demand3

@@ -1,0 +1,446 @@
+-- A quarter that stands for a queue passes 6, and stands for the queue after a job is added and after a turn. Assumes nothing.
+use mathlib.Core.Path.{_≡_, refl, sym, ap, _∙_, subst}
+use Prim.Native.Nat.{ℕ, zero, suc, _+_, _-_, _%_, _^_, _≤_, _<_}
+use mathlib.Core.Bool.{Bool, true, false, cond}
+use mathlib.Core.List.{List, [], _∷_, _++_}
+use mathlib.Core.Option.{none}
+use native.Mathlib.Omega.{arith}
+use native.Mathlib.Numerals.{add-one}
+use lib.ListN.{length, length-append}
+use lib.Dec.{leb, eqb}
+use borrow.Author.Tests.{le-leb, leb-true, lt-ltb, eq-eqb, ne-eqb, eqb-true, eqb-false}
+use Rattle.buf.specs.Bytes.{part, splice, numAt, u64At, putU64}
+use Rattle.buf.proofs.Laws.{length-putNum, get-put-same, get-put-before, get-put-after}
+use Rattle.block.specs.declared.types.Job.{Job}
+use Rattle.block.specs.View.{view}
+use Rattle.records.specs.Record.{recordBytes, sealedBytes, sealedOf}
+use Rattle.schedule.specs.Spans.{kindFits, countFits, spanOf}
+use Rattle.schedule.specs.Schedule.{Held, turnsOf, Undergone, turned, undergo}
+use Rattle.schedule.proofs.OnTime.{leaves, stays}
+use Rattle.solver_state.specs.declared.types.State.{State}
+use Rattle.stepping.specs.Stepping.{startOf, stepOf, stateFits}
+use Rattle.board_spec.specs.Layout.{quarterLength, acceptedAt, heldAt, turnsAt, kindAt, countAt}
+use Rattle.board_spec.specs.Machine.{Stepping, Storable, Request, stateAfter, outcomeAt}
+use Rattle.board_spec.specs.Quarter.{loadCounters, loadValues, loadState, storeCounters, storeValues, storeState, firstTicket, slotOf, firstSlot, firstKind, firstJob, slotFits, slotsFit, runningFits, quarterFits, putJob, submitQuarter, stateOf, steppedOf, keptQuarter, freedQuarter, DidQuarter, turnQuarter}
+use Rattle.board_spec.specs.Board.{Turned}
+use Rattle.board_spec.specs.Run.{Bytes, recordOf, turnReply}
+use Rattle.board_spec.specs.Rep.{InSlot, Stands, no-more, stands, Waiting, nobody, waits, Running, idle, runs, RepQueue}
+use Rattle.board_spec.proofs.Bytes.{length-state, state-back, num-head, state-head, SameSlot, slot-tail, tail-put, tail-state, length-job, head-job, kind-put, count-put, block-put, slot-other}
+use Rattle.schedule.proofs.Tests.{both, right-true, span-within}
+
+-- ---- numbers
+
+ticket-first : (c l : ℕ) → l ≤ c → l ≤ 8 → (c % 2 ^ 64 + (2 ^ 64 - l)) % 2 ^ 64 ≡ (c - l) % 2 ^ 64
+ticket-first c l h k = omega arith
+
+slot-ticket : (t : ℕ) → t % 2 ^ 64 % 8 ≡ t % 8
+slot-ticket t = omega arith
+
+ticket-next : (c : ℕ) → (c % 2 ^ 64 + 1) % 2 ^ 64 ≡ (c + 1) % 2 ^ 64
+ticket-next c = omega arith
+
+ticket-low : (x : ℕ) → x % 2 ^ 64 < 2 ^ 64
+ticket-low x = omega arith
+
+slot-low : (t : ℕ) → t % 8 < 8
+slot-low t = omega arith
+
+slot-next : (s t : ℕ) → s % 8 ≡ t % 8 → (s + 1) % 8 ≡ suc t % 8
+slot-next s t e = omega arith
+
+-- eight successive tickets have eight slots
+slots-apart : (t i l : ℕ) → i < l → l < 8 → (t + i) % 8 ≡ (t + l) % 8 → ⊥
+slots-apart t i l h k e = omega arith
+
+kind-low : (kind : ℕ) → kindFits kind ≡ true → kind < 2 ^ 64
+kind-low kind e = let h = leb-true kind 6 (right-true (leb 1 kind) (leb kind 6) e) in omega arith
+
+count-low : (n : ℕ) → countFits n ≡ true → n < 2 ^ 64
+count-low n e = let h = leb-true n 8 (right-true (leb 1 n) (leb n 8) e) in omega arith
+
+-- ---- slots
+
+slot-kept : (p q : Bytes) (slot : ℕ) (j : Held Bytes) → SameSlot p q slot → InSlot q slot j → InSlot p slot j
+slot-kept p q slot j s i = record { kind = s .kind ∙ i .kind; n = s .n ∙ i .n; block = s .block ∙ i .block; request = i .request }
+
+stands-at : {q : Bytes} {t : ℕ} {js : List (Held Bytes)} (u : ℕ) → t ≡ u → Stands q t js → Stands q u js
+stands-at {q} {t} {js} u e s = subst (λ (x : ℕ). Stands q x js) e s
+
+-- the slots in use read the same
+stands-kept : (p q : Bytes) (t : ℕ) (js : List (Held Bytes)) → ((i : ℕ) → i < length js → SameSlot p q (slotOf (t + i))) → Stands q t js → Stands p t js
+stands-kept p q t [] f no-more = no-more
+stands-kept p q t (j ∷ js) f (stands i e rest) =
+    let z : t + 0 ≡ t = omega arith in
+    let first : SameSlot p q (slotOf t) = rw z at (f 0 (omega arith)) in
+    let later : (k : ℕ) → k < length js → SameSlot p q (slotOf (suc t + k)) = λ k h. (let w : t + suc k ≡ suc t + k = omega arith in rw w at (f (suc k) (omega arith))) in
+    stands (slot-kept p q (slotOf t) j first i) e (stands-kept p q (suc t) js later rest)
+
+stands-tail : (p q : Bytes) (t : ℕ) (js : List (Held Bytes)) → part p 128 6016 ≡ part q 128 6016 → Stands q t js → Stands p t js
+stands-tail p q t js e s = stands-kept p q t js (λ i h. slot-tail p q e (slotOf (t + i)) (slot-low (t + i))) s
+
+stands-more : (q : Bytes) (t : ℕ) (js : List (Held Bytes)) (j : Held Bytes) → InSlot q (slotOf (t + length js)) j → j .ticket ≡ (t + length js) % 2 ^ 64 → Stands q t js → Stands q t (js ++ (j ∷ []))
+stands-more q t [] j i e no-more =
+    let z : t + 0 ≡ t = omega arith in
+    stands (subst (λ (x : ℕ). InSlot q (slotOf x) j) z i) (e ∙ ap (λ (x : ℕ). x % 2 ^ 64) z) no-more
+stands-more q t (k ∷ js) j i e (stands ik ek rest) =
+    let z : t + suc (length js) ≡ suc t + length js = omega arith in
+    stands ik ek (stands-more q (suc t) js j (subst (λ (x : ℕ). InSlot q (slotOf x) j) z i) (e ∙ ap (λ (x : ℕ). x % 2 ^ 64) z) rest)
+
+stands-head : {q : Bytes} {t : ℕ} {j : Held Bytes} {js : List (Held Bytes)} → Stands q t (j ∷ js) → InSlot q (slotOf t) j
+stands-head (stands i e rest) = i
+
+stands-ticket : {q : Bytes} {t : ℕ} {j : Held Bytes} {js : List (Held Bytes)} → Stands q t (j ∷ js) → j .ticket ≡ t % 2 ^ 64
+stands-ticket (stands i e rest) = e
+
+stands-rest : {q : Bytes} {t : ℕ} {j : Held Bytes} {js : List (Held Bytes)} → Stands q t (j ∷ js) → Stands q (suc t) js
+stands-rest (stands i e rest) = rest
+
+-- ---- the running job
+
+runs-below : {q : Bytes} {j : Held Bytes} {js : List (Held Bytes)} → Running q (j ∷ js) → j .turns < spanOf (j .kind)
+runs-below (runs h s w) = h
+
+runs-state : {q : Bytes} {j : Held Bytes} {js : List (Held Bytes)} → Running q (j ∷ js) → 1 ≤ j .turns → loadState q ≡ stateAfter (view (j .kind) (j .n) (j .block)) (j .turns)
+runs-state (runs h s w) = s
+
+runs-waiting : {q : Bytes} {j : Held Bytes} {js : List (Held Bytes)} → Running q (j ∷ js) → Waiting js
+runs-waiting (runs h s w) = w
+
+waiting-turns : {js : List (Held Bytes)} → Waiting js → turnsOf js ≡ 0
+unfolding turnsOf
+waiting-turns nobody = refl
+waiting-turns (waits e w) = e
+
+fresh-runs : (q : Bytes) (j : Held Bytes) (js : List (Held Bytes)) → j .turns ≡ 0 → Waiting js → Running q (j ∷ js)
+fresh-runs q j js e w =
+    let s = span-within (j .kind) in
+    let below : j .turns < spanOf (j .kind) = omega arith in
+    runs below (λ h. absurd (omega arith)) w
+
+waiting-runs : (q : Bytes) {js : List (Held Bytes)} → Waiting js → Running q js
+waiting-runs q nobody = idle
+waiting-runs q (waits {j} {js} e w) = fresh-runs q j js e w
+
+waiting-more : {js : List (Held Bytes)} (j : Held Bytes) → j .turns ≡ 0 → Waiting js → Waiting (js ++ (j ∷ []))
+waiting-more j e nobody = waits e nobody
+waiting-more j e (waits e′ w) = waits e′ (waiting-more j e w)
+
+running-more : (p q : Bytes) (js : List (Held Bytes)) (j : Held Bytes) → j .turns ≡ 0 → loadState p ≡ loadState q → Running q js → Running p (js ++ (j ∷ []))
+running-more p q [] j e l r = fresh-runs p j [] e nobody
+running-more p q (k ∷ js) j e l (runs h s w) = runs h (λ x. l ∙ s x) (waiting-more j e w)
+
+turns-more : (js : List (Held Bytes)) (j : Held Bytes) → j .turns ≡ 0 → turnsOf (js ++ (j ∷ [])) ≡ turnsOf js
+unfolding turnsOf
+turns-more [] j e = e
+turns-more (k ∷ js) j e = refl
+
+-- ---- the first job
+
+first-ticket : (c : ℕ) (js : List (Held Bytes)) (q : Bytes) → RepQueue c js q → firstTicket q ≡ (c - length js) % 2 ^ 64
+unfolding firstTicket
+first-ticket c js q r = rw (r .accepted, r .held) (ticket-first c (length js) (r .enough) (r .few))
+
+first-slot : (c : ℕ) (js : List (Held Bytes)) (q : Bytes) → RepQueue c js q → firstSlot q ≡ slotOf (c - length js)
+first-slot c js q r = ap slotOf (first-ticket c js q r) ∙ slot-ticket (c - length js)
+
+first-in : (c : ℕ) (j : Held Bytes) (js : List (Held Bytes)) (q : Bytes) → RepQueue c (j ∷ js) q → InSlot q (firstSlot q) j
+first-in c j js q r = subst (λ (s : ℕ). InSlot q s j) (sym (first-slot c (j ∷ js) q r)) (stands-head (r .slots))
+
+abbrev jobOf : Held Bytes → Job
+jobOf j = view (j .kind) (j .n) (j .block)
+
+job-same : (k k′ n n′ : ℕ) (b b′ : Bytes) → k ≡ k′ → n ≡ n′ → b ≡ b′ → view k n b ≡ view k′ n′ b′
+job-same k k′ n n′ b b′ e f g = rw (e, f, g)
+
+first-job : (c : ℕ) (j : Held Bytes) (js : List (Held Bytes)) (q : Bytes) → RepQueue c (j ∷ js) q → firstJob q ≡ jobOf j
+unfolding firstJob
+first-job c j js q r = let i = first-in c j js q r in job-same _ _ _ _ _ _ (i .kind) (i .n) (i .block)
+
+turns-first : (c : ℕ) (j : Held Bytes) (js : List (Held Bytes)) (q : Bytes) → RepQueue c (j ∷ js) q → u64At q turnsAt ≡ j .turns
+unfolding turnsOf
+turns-first c j js q r = r .turns
+
+module _ (L : Stepping) where
+  pub states-store : (kind n : ℕ) (block : Bytes) (k : ℕ) → Storable (stateAfter (view kind n block) k)
+  unfolding stateAfter
+  states-store kind n block zero = L .start-stores kind n block
+  states-store kind n block (suc k) = L .step-stores kind n block (stateAfter (view kind n block) k) (states-store kind n block k)
+
+  pub states-fit : (job : Job) (k : ℕ) → stateFits (stateAfter job k) ≡ true
+  unfolding stateAfter
+  states-fit job zero = L .start-fits job
+  states-fit job (suc k) = L .step-fits job (stateAfter job k) (states-fit job k)
+
+  -- ---- 6 never comes
+
+  slots-fit : {q : Bytes} {t : ℕ} {js : List (Held Bytes)} → Stands q t js → (s : ℕ) → s % 8 ≡ t % 8 → slotsFit q s (length js) ≡ true
+  unfolding slotsFit slotFits
+  slots-fit no-more s e = refl
+  slots-fit {q} {t} (stands {j = j} {js = js} i ek rest) s e =
+      let ks : kindFits (u64At q (kindAt (slotOf s))) ≡ true = ap (λ (x : ℕ). kindFits (u64At q (kindAt x))) e ∙ ap kindFits (i .kind) ∙ i .request .kind-fits in
+      let ns : countFits (u64At q (countAt (slotOf s))) ≡ true = ap (λ (x : ℕ). countFits (u64At q (countAt x))) e ∙ ap countFits (i .n) ∙ i .request .count-fits in
+      both _ _ (both _ _ ks ns) (slots-fit rest (s + 1) (slot-next s t e))
+
+  running-fits : (c : ℕ) (j : Held Bytes) (js : List (Held Bytes)) (q : Bytes) → RepQueue c (j ∷ js) q → 1 ≤ j .turns → runningFits q ≡ true
+  unfolding runningFits
+  running-fits c j js q r h =
+      let k : 1 ≤ u64At q heldAt = rw (r .held) (omega arith) in
+      let b : u64At q turnsAt < spanOf (firstKind q) = rw (turns-first c j js q r, first-in c j js q r .kind) (runs-below (r .running)) in
+      both _ _ (le-leb _ _ k) (both _ _ (lt-ltb _ _ b) (ap stateFits (runs-state (r .running) h) ∙ states-fit (jobOf j) (j .turns)))
+
+  turns-fit : (c : ℕ) (js : List (Held Bytes)) (q : Bytes) → RepQueue c js q → cond (eqb (u64At q turnsAt) 0) true (runningFits q) ≡ true
+  unfolding turnsOf
+  turns-fit c [] q r = rw (r .turns)
+  turns-fit c (j ∷ js) q r = go (eqb (u64At q turnsAt) 0) refl
+    where
+      go : (b : Bool) → eqb (u64At q turnsAt) 0 ≡ b → cond b true (runningFits q) ≡ true
+      go true e = refl
+      go false e =
+          let n = eqb-false (u64At q turnsAt) 0 e in
+          let t = turns-first c j js q r in
+          running-fits c j js q r (omega arith)
+
+  pub quarter-fits : (c : ℕ) (js : List (Held Bytes)) (q : Bytes) → RepQueue c js q → quarterFits q ≡ true
+  unfolding quarterFits
+  quarter-fits c js q r =
+      let few : u64At q heldAt ≤ 8 = rw (r .held) (r .few) in
+      let slots : slotsFit q (firstTicket q) (u64At q heldAt) ≡ true = rw (r .held) (slots-fit (r .slots) (firstTicket q) (first-slot c js q r)) in
+      both _ _ (le-leb _ _ few) (both _ _ slots (turns-fit c js q r))
+
+-- ---- a job is added
+
+module _ (c : ℕ) (js : List (Held Bytes)) (q : Bytes) (r : RepQueue c js q) (kind n : ℕ) (block : Bytes) (ok : Request kind n block) (room : length js < 8) where
+  abbrev new : Held Bytes
+  new = record { kind = kind; n = n; block = block; ticket = c % 2 ^ 64; turns = 0 }
+
+  abbrev slot : ℕ
+  slot = slotOf (u64At q acceptedAt)
+
+  abbrev put-in : Bytes
+  put-in = putJob q slot kind n block
+
+  abbrev counted : Bytes
+  counted = putU64 put-in acceptedAt ((u64At q acceptedAt + 1) % 2 ^ 64)
+
+  abbrev filled : Bytes
+  filled = putU64 counted heldAt (u64At q heldAt + 1)
+
+  slot-is : slot ≡ slotOf c
+  slot-is = ap slotOf (r .accepted) ∙ slot-ticket c
+
+  slot-fits : slot < 8
+  slot-fits = slot-low (u64At q acceptedAt)
+
+  length-put : length put-in ≡ quarterLength
+  length-put = length-job q slot kind n block ∙ r .len
+
+  length-counted : length counted ≡ quarterLength
+  length-counted = length-putNum 8 put-in acceptedAt _ ∙ length-put
+
+  -- the slots are those after the job is put in
+  tail-filled : part filled 128 6016 ≡ part put-in 128 6016
+  tail-filled = tail-put counted heldAt _ refl ∙ tail-put put-in acceptedAt _ refl
+
+  state-filled : loadState filled ≡ loadState q
+  unfolding loadState loadCounters loadValues
+  state-filled = simp get-put-after (state-head put-in q (head-job q slot kind n block))
+
+  turns-filled : u64At filled turnsAt ≡ u64At q turnsAt
+  turns-filled =
+      get-put-after 8 8 counted heldAt _ turnsAt refl ∙ get-put-after 8 8 put-in acceptedAt _ turnsAt refl ∙ num-head put-in q (head-job q slot kind n block) turnsAt refl
+
+  new-in : InSlot put-in slot new
+  new-in =
+      record {
+        kind = kind-put q slot kind n block (r .len) slot-fits (kind-low kind (ok .kind-fits));
+        n = count-put q slot kind n block (r .len) slot-fits (count-low n (ok .count-fits));
+        block = block-put q slot kind n block (r .len) slot-fits (ok .block-fits);
+        request = ok;
+      }
+
+  last : (c - length js) + length js ≡ c
+  last = let e = r .enough in omega arith
+
+  old-slots : (i : ℕ) → i < length js → SameSlot filled q (slotOf (c - length js + i))
+  old-slots i h =
+      let s = slotOf (c - length js + i) in
+      let apart : s ≡ slot → ⊥ = λ e. slots-apart (c - length js) i (length js) h room (e ∙ slot-is ∙ ap slotOf (sym last)) in
+      let a = slot-tail filled put-in tail-filled s (slot-low (c - length js + i)) in
+      let b = slot-other q slot kind n block (ok .block-fits) slot-fits s (slot-low (c - length js + i)) apart in
+      record { kind = a .kind ∙ b .kind; n = a .n ∙ b .n; block = a .block ∙ b .block }
+
+  new-slot : InSlot filled (slotOf (c - length js + length js)) new
+  new-slot =
+      let a = slot-kept filled put-in slot new (slot-tail filled put-in tail-filled slot slot-fits) new-in in
+      subst (λ (s : ℕ). InSlot filled s new) (slot-is ∙ ap slotOf (sym last)) a
+
+  slots-filled : Stands filled (c - length js) (js ++ (new ∷ []))
+  slots-filled =
+      stands-more filled (c - length js) js new new-slot (ap (λ (x : ℕ). x % 2 ^ 64) (sym last)) (stands-kept filled q (c - length js) js old-slots (r .slots))
+
+  length-more : length (js ++ (new ∷ [])) ≡ length js + 1
+  length-more = length-append js (new ∷ [])
+
+  from : c - length js ≡ (c + 1) - length (js ++ (new ∷ []))
+  from = rw length-more (omega arith)
+
+  pub submit-rep : RepQueue (c + 1) (js ++ (new ∷ [])) (submitQuarter q kind n block)
+  unfolding submitQuarter
+  submit-rep =
+      let hl = r .held in
+      let small : u64At q heldAt + 1 < 2 ^ 64 = omega arith in
+      let e = r .enough in
+      record {
+        len = length-putNum 8 counted heldAt _ ∙ length-counted;
+        accepted =
+            get-put-before 8 8 counted heldAt _ acceptedAt refl
+            ∙ get-put-same 8 put-in acceptedAt _ (le-leb (acceptedAt + 8) (length put-in) (rw length-put (omega arith))) (ticket-low (u64At q acceptedAt + 1))
+            ∙ ap (λ (x : ℕ). (x + 1) % 2 ^ 64) (r .accepted) ∙ ticket-next c;
+        held = get-put-same 8 counted heldAt _ (le-leb (heldAt + 8) (length counted) (rw length-counted (omega arith))) small ∙ ap (λ (x : ℕ). x + 1) (r .held) ∙ sym length-more;
+        few = rw length-more (omega arith);
+        enough = rw length-more (omega arith);
+        turns = turns-filled ∙ r .turns ∙ sym (turns-more js new refl);
+        slots = stands-at ((c + 1) - length (js ++ (new ∷ []))) from slots-filled;
+        running = running-more filled q js new refl state-filled (r .running);
+      }
+
+-- ---- a turn
+
+-- what a served queue's quarter does is what its jobs undergo
+pub record Turns (queue c : ℕ) (js : List (Held Bytes)) (q buffer : Bytes) : Type 0 where
+  pub reply : record { answer = Turned (turnQuarter queue q buffer .answer); buffer = turnQuarter queue q buffer .buffer } ≡ turnReply buffer queue (undergo js .out)
+  pub rep : RepQueue c (undergo js .jobs) (turnQuarter queue q buffer .quarter)
+
+turn-idle : (queue : ℕ) (q buffer : Bytes) → eqb (u64At q heldAt) 0 ≡ true → turnQuarter queue q buffer ≡ record { answer = 0; quarter = q; buffer = buffer }
+unfolding turnQuarter
+turn-idle queue q buffer e = rw e
+
+turn-out : (queue : ℕ) (q buffer : Bytes) → eqb (u64At q heldAt) 0 ≡ false → eqb (u64At q turnsAt + 1) (spanOf (firstKind q)) ≡ true
+    → turnQuarter queue q buffer ≡ record { answer = 1; quarter = freedQuarter q; buffer = splice buffer 0 (recordBytes (firstTicket q) (firstKind q) queue (outcomeAt (steppedOf q))) }
+unfolding turnQuarter
+turn-out queue q buffer e f = rw (e, f)
+
+turn-on : (queue : ℕ) (q buffer : Bytes) → eqb (u64At q heldAt) 0 ≡ false → eqb (u64At q turnsAt + 1) (spanOf (firstKind q)) ≡ false
+    → turnQuarter queue q buffer ≡ record { answer = 0; quarter = keptQuarter q; buffer = buffer }
+unfolding turnQuarter
+turn-on queue q buffer e f = rw (e, f)
+
+turns-by : (queue c : ℕ) (js : List (Held Bytes)) (q buffer : Bytes) (d : DidQuarter) (u : Undergone Bytes) → turnQuarter queue q buffer ≡ d → undergo js ≡ u
+    → record { answer = Turned (d .answer); buffer = d .buffer } ≡ turnReply buffer queue (u .out) → RepQueue c (u .jobs) (d .quarter) → Turns queue c js q buffer
+turns-by queue c js q buffer d u ed eu reply rep = record { reply = rw (ed, eu) reply; rep = rw (ed, eu) rep }
+
+state-start : (job : Job) (k : ℕ) → k ≡ 0 → startOf job ≡ stateAfter job k
+unfolding stateAfter
+state-start job k e = rw e
+
+state-next : (job : Job) (k : ℕ) → stepOf job (stateAfter job k) ≡ stateAfter job (k + 1)
+unfolding stateAfter
+state-next job k = rw (add-one k)
+
+turned-stands : {p : Bytes} {t : ℕ} {j : Held Bytes} {js : List (Held Bytes)} → Stands p t (j ∷ js) → Stands p t (turned j ∷ js)
+unfolding turned
+turned-stands (stands i e rest) = stands (record { kind = i .kind; n = i .n; block = i .block; request = i .request }) e rest
+
+module _ (L : Stepping) (c : ℕ) (j : Held Bytes) (js : List (Held Bytes)) (q : Bytes) (r : RepQueue c (j ∷ js) q) where
+  state-of : stateOf q ≡ stateAfter (jobOf j) (j .turns)
+  unfolding stateOf
+  state-of = go (eqb (u64At q turnsAt) 0) refl
+    where
+      go : (b : Bool) → eqb (u64At q turnsAt) 0 ≡ b → cond b (startOf (firstJob q)) (loadState q) ≡ stateAfter (jobOf j) (j .turns)
+      go true e = ap startOf (first-job c j js q r) ∙ state-start (jobOf j) (j .turns) (sym (turns-first c j js q r) ∙ eqb-true (u64At q turnsAt) 0 e)
+      go false e =
+          let n = eqb-false (u64At q turnsAt) 0 e in
+          let t = turns-first c j js q r in
+          runs-state (r .running) (omega arith)
+
+  stepped-is : steppedOf q ≡ stateAfter (jobOf j) (j .turns + 1)
+  unfolding steppedOf
+  stepped-is = rw (first-job c j js q r, state-of) (state-next (jobOf j) (j .turns))
+
+  held-some : eqb (u64At q heldAt) 0 ≡ false
+  held-some = let h = r .held in ne-eqb (u64At q heldAt) 0 (λ e. omega arith)
+
+  ticket-is : firstTicket q ≡ j .ticket
+  ticket-is = first-ticket c (j ∷ js) q r ∙ sym (stands-ticket (r .slots))
+
+  kind-is : firstKind q ≡ j .kind
+  kind-is = first-in c j js q r .kind
+
+  request-of : Request (j .kind) (j .n) (j .block)
+  request-of = first-in c j js q r .request
+
+  -- the record that is written
+  record-is : (queue : ℕ) → j .turns + 1 ≡ spanOf (j .kind) → recordBytes (firstTicket q) (firstKind q) queue (outcomeAt (steppedOf q)) ≡ recordOf queue (turned j)
+  unfolding recordBytes recordOf turned
+  record-is queue e =
+      let s : sealedBytes (outcomeAt (steppedOf q)) ≡ sealedOf (j .kind) (j .n) (j .block) =
+      ap (λ (x : State). sealedBytes (outcomeAt x)) (stepped-is ∙ ap (stateAfter (jobOf j)) e) ∙ L .finished (j .kind) (j .n) (j .block) request-of in
+      rw (kind-is, ticket-is, s)
+
+  -- ---- the job leaves
+  freed-rep : RepQueue c js (freedQuarter q)
+  unfolding freedQuarter
+  freed-rep =
+      let hl : u64At q heldAt ≡ suc (length js) = r .held in
+      let f = r .few in
+      let e = r .enough in
+      let small : u64At q heldAt - 1 < 2 ^ 64 = omega arith in
+      let less : u64At q heldAt - 1 ≡ length js = omega arith in
+      let q₁ = putU64 q heldAt (u64At q heldAt - 1) in
+      let l₁ : length q₁ ≡ quarterLength = length-putNum 8 q heldAt _ ∙ r .len in
+      let from : suc (c - suc (length js)) ≡ c - length js = omega arith in
+      record {
+        len = length-putNum 8 q₁ turnsAt 0 ∙ l₁;
+        accepted = get-put-before 8 8 q₁ turnsAt 0 acceptedAt refl ∙ get-put-before 8 8 q heldAt _ acceptedAt refl ∙ r .accepted;
+        held = get-put-before 8 8 q₁ turnsAt 0 heldAt refl ∙ get-put-same 8 q heldAt _ (le-leb (heldAt + 8) (length q) (rw (r .len) (omega arith))) small ∙ less;
+        few = omega arith;
+        enough = omega arith;
+        turns = get-put-same 8 q₁ turnsAt 0 (le-leb (turnsAt + 8) (length q₁) (rw l₁ (omega arith))) (omega arith) ∙ sym (waiting-turns (runs-waiting (r .running)));
+        slots = stands-tail (putU64 q₁ turnsAt 0) q (c - length js) js (tail-put q₁ turnsAt 0 refl ∙ tail-put q heldAt _ refl) (stands-at (c - length js) from (stands-rest (r .slots)));
+        running = waiting-runs (putU64 q₁ turnsAt 0) (runs-waiting (r .running));
+      }
+
+  -- ---- the job stays
+  head-state : (p : Bytes) (s : State) → (numAt 8 (storeState p s) 0 ≡ numAt 8 p 0) × (numAt 8 (storeState p s) 8 ≡ numAt 8 p 8) × (numAt 8 (storeState p s) 16 ≡ numAt 8 p 16)
+  unfolding storeState storeValues storeCounters
+  head-state p s = (simp get-put-before, simp get-put-before, simp get-put-before)
+
+  kept-rep : (j .turns + 1 ≡ spanOf (j .kind) → ⊥) → RepQueue c (turned j ∷ js) (keptQuarter q)
+  unfolding keptQuarter turned turnsOf
+  kept-rep n =
+      let t = turns-first c j js q r in
+      let b = runs-below (r .running) in
+      let sl = span-within (j .kind) in
+      let below : j .turns + 1 < spanOf (j .kind) = omega arith in
+      let small : u64At q turnsAt + 1 < 2 ^ 64 = omega arith in
+      let q₁ = putU64 q turnsAt (u64At q turnsAt + 1) in
+      let l₁ : length q₁ ≡ quarterLength = length-putNum 8 q turnsAt _ ∙ r .len in
+      let h = head-state q₁ (steppedOf q) in
+      let st : Storable (steppedOf q) = rw stepped-is (states-store L (j .kind) (j .n) (j .block) (j .turns + 1)) in
+      record {
+        len = length-state q₁ (steppedOf q) ∙ l₁;
+        accepted = h .0 ∙ get-put-before 8 8 q turnsAt _ acceptedAt refl ∙ r .accepted;
+        held = h .1 ∙ get-put-before 8 8 q turnsAt _ heldAt refl ∙ r .held;
+        few = r .few;
+        enough = r .enough;
+        turns = h .2 ∙ get-put-same 8 q turnsAt _ (le-leb (turnsAt + 8) (length q) (rw (r .len) (omega arith))) small ∙ ap (λ (x : ℕ). x + 1) t;
+        slots = turned-stands (stands-tail (storeState q₁ (steppedOf q)) q (c - suc (length js)) (j ∷ js) (tail-state q₁ (steppedOf q) ∙ tail-put q turnsAt _ refl) (r .slots));
+        running = runs below (λ x. state-back q₁ (steppedOf q) l₁ st ∙ stepped-is) (runs-waiting (r .running));
+      }
+
+  pub turn-some : (queue : ℕ) (buffer : Bytes) (b : Bool) → eqb (j .turns + 1) (spanOf (j .kind)) ≡ b → Turns queue c (j ∷ js) q buffer
+  unfolding turnReply
+  turn-some queue buffer true e =
+      let w : j .turns + 1 ≡ spanOf (j .kind) = eqb-true _ _ e in
+      let f : eqb (u64At q turnsAt + 1) (spanOf (firstKind q)) ≡ true = rw (turns-first c j js q r, kind-is) e in
+      turns-by queue c (j ∷ js) q buffer _ _ (turn-out queue q buffer held-some f) (leaves j js w)
+      (ap (λ (x : Bytes). record { answer = Turned 1; buffer = splice buffer 0 x }) (record-is queue w)) freed-rep
+  turn-some queue buffer false e =
+      let n = eqb-false _ _ e in
+      let f : eqb (u64At q turnsAt + 1) (spanOf (firstKind q)) ≡ false = rw (turns-first c j js q r, kind-is) e in
+      turns-by queue c (j ∷ js) q buffer _ _ (turn-on queue q buffer held-some f) (stays j js n) refl (kept-rep n)
+
+pub turn-rep : (L : Stepping) (queue c : ℕ) (js : List (Held Bytes)) (q buffer : Bytes) → RepQueue c js q → Turns queue c js q buffer
+unfolding turnReply undergo
+turn-rep L queue c [] q buffer r = turns-by queue c [] q buffer _ (record { jobs = []; out = none }) (turn-idle queue q buffer (eq-eqb _ _ (r .held))) refl refl r
+turn-rep L queue c (j ∷ js) q buffer r = turn-some L c j js q r queue buffer (eqb (j .turns + 1) (spanOf (j .kind))) refl

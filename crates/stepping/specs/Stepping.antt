@@ -1,0 +1,80 @@
+-- A job of a request block, one evaluation at a time: its first state, its step, the range of a stored state, and its end. Definitions only.
+use Prim.Native.Nat.{ℕ, _+_, _%_, _^_}
+use mathlib.Core.Bool.{Bool, cond, _&&_, _||_}
+use lib.Dec.{leb, ltb, eqb}
+use lib.Ieee.{Float}
+use Rattle.float.specs.Ops.{f0}
+use Rattle.eos.specs.Cubic.{maxDensity}
+use Rattle.solver.specs.declared.types.Values.{Values}
+use Rattle.solver.specs.declared.types.Counters.{Counters}
+use Rattle.solver.specs.declared.types.Numbers.{Numbers}
+use Rattle.solver.specs.Search.{Evaluator}
+use Rattle.solver.specs.Evaluated.{evaluated}
+use Rattle.solver.specs.Stored.{inRanges}
+use Rattle.solver_density.specs.Density.{conditionsOf}
+use Rattle.solver_state.specs.declared.types.State.{State}
+use Rattle.solver_state.specs.declared.types.Job.the-variants as Search
+use Rattle.solver_state.specs.State as Steps
+use Rattle.block.specs.declared.types.Job.{Job}
+use Rattle.block.specs.declared.types.Task.{Task}
+use Rattle.block.specs.declared.types.Task.the-variants as Task
+use Rattle.stepping.specs.declared.types.Work.{Work}
+use Rattle.stepping.specs.declared.types.Work.the-variants as Work
+use Rattle.stepping.specs.declared.types.Ended.{Ended}
+
+-- the search that a task makes, from the maximum density of its blend
+unfoldable pub workOf : (maxdensity : Float) → Task → Work
+workOf maxdensity (Task.Refused number) = Work.Refused number
+workOf maxdensity (Task.DensityIteration t p initial) = Work.Search (Search.Density (conditionsOf maxdensity t p initial))
+workOf maxdensity (Task.DensityIterationStable t p) = Work.Search (Search.StableDensity maxdensity t p)
+workOf maxdensity (Task.PressureSpinodal t start) = Work.Search (Search.PressureSpinodal maxdensity t start)
+workOf maxdensity (Task.PressureSpinodalBranch t branch) = Work.Search (Search.BranchSpinodal maxdensity t branch)
+workOf maxdensity (Task.CriticalPoint t density) = Work.Search (Search.CriticalPoint maxdensity t density)
+workOf maxdensity (Task.Spinodal t) = Work.Search (Search.StabilitySpinodals maxdensity t)
+
+-- a job refused by its data is at its end before any evaluation: tag 0, and the refusal as its status
+unfoldable pub refusedState : ℕ → State
+refusedState number = record {
+  numbers = record {
+    counters = record { stage = 0; tag = 0; status = number; left = 0; way = 0; rounds = 0 };
+    values = record { first = f0; second = f0; third = f0 };
+  };
+  evaluations = 0;
+  latest = f0;
+}
+
+unfoldable pub startBy : Work → State
+startBy (Work.Refused number) = refusedState number
+startBy (Work.Search job) = Steps.startOf job
+
+unfoldable pub startOf : Job → State
+startOf job = startBy (workOf (maxDensity (job .blend)) (job .task))
+
+-- a state with its count put to zero, and with n more counted, in eight bytes
+abbrev pub uncounted : State → State
+uncounted s = record { numbers = s .numbers; evaluations = 0; latest = s .latest }
+
+abbrev pub counted : ℕ → State → State
+counted n s = record { numbers = s .numbers; evaluations = (n + s .evaluations) % 2 ^ 64; latest = s .latest }
+
+-- one evaluation and one more counted, or none at an end
+unfoldable pub stepBy : Evaluator → Work → State → State
+stepBy ev (Work.Refused number) s = s
+stepBy ev (Work.Search job) s = counted (s .evaluations) (Steps.stepOf job ev (uncounted s))
+
+unfoldable pub stepOf : Job → State → State
+stepOf job s = stepBy (evaluated (job .blend)) (workOf (maxDensity (job .blend)) (job .task)) s
+
+-- the range of each counter: those of a search, or the end of a job refused by its data, 11 to 16
+unfoldable pub dataRefusal : Counters → Bool
+dataRefusal c = eqb (c .tag) 0 && (leb 11 (c .status) && leb (c .status) 16)
+
+unfoldable pub stateFits : State → Bool
+stateFits s = inRanges (s .numbers .counters) || dataRefusal (s .numbers .counters)
+
+-- status and floats of an end; where a state is no end, which no job's last turn leaves, 22 and +0
+unfoldable pub resultOf : State → Ended
+resultOf s =
+    cond (eqb (s .numbers .counters .tag) 0)
+    (record { status = s .numbers .counters .status; values = s .numbers .values })
+    (record { status = 22; values = record { first = f0; second = f0; third = f0 } })
