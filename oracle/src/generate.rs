@@ -323,6 +323,14 @@ fn hot(rng: &mut Rng) -> Draft {
         draft.choice = rng.below(draft.n) as u64;
         draft.temperature = rng.log_between(1e280, 1e306);
         draft.start = 0.0;
+        if rng.once_in(8) {
+            // here the second pivot of the critical step is 0 and the first is not
+            let i = draft.choice as usize;
+            let record = &mut draft.blend.coefficients[i];
+            (record.tc, record.pc) = (369.83, 4248000.0);
+            draft.temperature = 7.888680658552583e279;
+            draft.start = 2.1535135699266495e-18;
+        }
         return draft;
     }
     draft.temperature = rng.between(1.2e306, 1.77e306);
