@@ -166,10 +166,10 @@ module _ (L : Stepping) where
   states-store kind n block zero = L .start-stores kind n block
   states-store kind n block (suc k) = L .step-stores kind n block (stateAfter (view kind n block) k) (states-store kind n block k)
 
-  pub states-fit : (job : Job) (k : ℕ) → stateFits (stateAfter job k) ≡ true
+  pub states-fit : (kind n : ℕ) (block : Bytes) → Request kind n block → (k : ℕ) → stateFits (stateAfter (view kind n block) k) ≡ true
   unfolding stateAfter
-  states-fit job zero = L .start-fits job
-  states-fit job (suc k) = L .step-fits job (stateAfter job k) (states-fit job k)
+  states-fit kind n block ok zero = L .start-fits kind n block ok
+  states-fit kind n block ok (suc k) = L .step-fits (view kind n block) (stateAfter (view kind n block) k) (states-fit kind n block ok k)
 
   -- ---- 6 never comes
 
@@ -186,7 +186,7 @@ module _ (L : Stepping) where
   running-fits c j js q r h =
       let k : 1 ≤ u64At q heldAt = rw (r .held) (omega arith) in
       let b : u64At q turnsAt < spanOf (firstKind q) = rw (turns-first c j js q r, first-in c j js q r .kind) (runs-below (r .running)) in
-      both _ _ (le-leb _ _ k) (both _ _ (lt-ltb _ _ b) (ap stateFits (runs-state (r .running) h) ∙ states-fit (jobOf j) (j .turns)))
+      both _ _ (le-leb _ _ k) (both _ _ (lt-ltb _ _ b) (ap stateFits (runs-state (r .running) h) ∙ states-fit (j .kind) (j .n) (j .block) (first-in c j js q r .request) (j .turns)))
 
   turns-fit : (c : ℕ) (js : List (Held Bytes)) (q : Bytes) → RepQueue c js q → cond (eqb (u64At q turnsAt) 0) true (runningFits q) ≡ true
   unfolding turnsOf

@@ -82,7 +82,7 @@ pub record Stepping : Type 0 where
   pub start-stores : (kind n : ℕ) (block : List ℕ) → Storable (startOf (view kind n block))
   pub step-stores : (kind n : ℕ) (block : List ℕ) (s : State) → Storable s → Storable (stepOf (view kind n block) s)
   -- a state reached is in range
-  pub start-fits : (job : Job) → stateFits (startOf job) ≡ true
+  pub start-fits : (kind n : ℕ) (block : List ℕ) → Request kind n block → stateFits (startOf (view kind n block)) ≡ true
   pub step-fits : (job : Job) (s : State) → stateFits s ≡ true → stateFits (stepOf job s) ≡ true
   -- the states are the definition's
   pub shows : (kind n : ℕ) (block : List ℕ) → Request kind n block → (turns : ℕ)

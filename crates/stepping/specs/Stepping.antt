@@ -65,16 +65,21 @@ stepBy ev (Work.Search job) s = counted (s .evaluations) (Steps.stepOf job ev (u
 unfoldable pub stepOf : Job → State → State
 stepOf job s = stepBy (evaluated (job .blend)) (workOf (maxDensity (job .blend)) (job .task)) s
 
--- the range of each counter: those of a search, or the end of a job refused by its data, 11 to 16
-unfoldable pub dataRefusal : Counters → Bool
-dataRefusal c = eqb (c .tag) 0 && (leb 11 (c .status) && leb (c .status) 16)
+-- stage 0 and tag 0: every kind reads this as its end
+unfoldable pub atEnd : Counters → Bool
+atEnd c = eqb (c .stage) 0 && eqb (c .tag) 0
 
+-- the end of a job refused by its data, 11 to 16
+unfoldable pub dataRefusal : Counters → Bool
+dataRefusal c = atEnd c && (eqb (c .left) 0 && (eqb (c .way) 0 && (eqb (c .rounds) 0 && (leb 11 (c .status) && leb (c .status) 16))))
+
+-- the range of each counter: those of a search, or a data refusal's
 unfoldable pub stateFits : State → Bool
 stateFits s = inRanges (s .numbers .counters) || dataRefusal (s .numbers .counters)
 
 -- status and floats of an end; where a state is no end, which no job's last turn leaves, 22 and +0
 unfoldable pub resultOf : State → Ended
 resultOf s =
-    cond (eqb (s .numbers .counters .tag) 0)
+    cond (atEnd (s .numbers .counters))
     (record { status = s .numbers .counters .status; values = s .numbers .values })
     (record { status = 22; values = record { first = f0; second = f0; third = f0 } })
