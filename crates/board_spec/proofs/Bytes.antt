@@ -14,7 +14,7 @@ use Rattle.solver.specs.declared.types.Counters.{Counters}
 use Rattle.solver.specs.declared.types.Values.{Values}
 use Rattle.solver_state.specs.declared.types.State.{State}
 use Rattle.board_spec.specs.Layout.{quarterLength, kindAt, countAt, blockAt}
-use Rattle.board_spec.specs.Machine.{CountersStorable, ValuesStorable, Storable}
+use Rattle.stepping.specs.Storable.{CountersStorable, ValuesStorable, Storable}
 use Rattle.board_spec.specs.Quarter.{loadCounters, storeCounters, loadValues, storeValues, loadState, storeState, putJob}
 
 -- ---- the running state that is stored is loaded
@@ -71,7 +71,7 @@ state-back q s l f =
     let q₁ = storeCounters q cs in
     let l₁ : length q₁ ≡ quarterLength = length-counters q cs ∙ l in
     let l₂ : length (storeValues q₁ vs) ≡ quarterLength = length-values q₁ vs ∙ l₁ in
-    simp (tail-counters, tail-values, counters-after, counters-back q cs l (f .counters), values-back q₁ vs l₁ (f .values), get-put-before, get-put-same, f64-same, length-putNum, l₂, f .evaluations, f .latest)
+    simp (tail-counters, tail-values, counters-after, counters-back q cs l (f .counters), values-back q₁ vs l₁ (f .floats .values), get-put-before, get-put-same, f64-same, length-putNum, l₂, f .evaluations, f .floats .latest)
 
 -- ---- the numbers before the slots, and the slots
 

@@ -1,4 +1,4 @@
--- Demand 3: one theorem over two runs with the same public fields. What it takes from the crate `stepping` is the record `Stepping` of specs/Machine.antt.
+-- Demand 3: one theorem over two runs with the same public fields. Assumes nothing.
 use mathlib.Core.Path.{_≡_, refl, sym, ap, _∙_}
 use Prim.Native.Nat.{ℕ, _+_, _%_, _^_, _≤_}
 use mathlib.Core.List.{List, [], _∷_, _++_, map}
@@ -19,7 +19,7 @@ use Rattle.schedule.proofs.Rounds.{Round, round, four-once}
 use Rattle.schedule.proofs.Order.{order}
 use Rattle.schedule.proofs.OnTime as OnTime
 use Rattle.board_spec.specs.Layout.{turnAt}
-use Rattle.board_spec.specs.Machine.{Stepping}
+use Rattle.stepping.specs.Laws.{Stepping}
 use Rattle.board_spec.specs.Board.{Refused, Ticket, Did, quarterOf, turnBoard}
 use Rattle.board_spec.specs.Run.{Bytes, Calls, zeroBoard, did, boardAfter, Reply, replyBy, bufferOf, recordOf, turnReply, sightReply, replyOf, fieldsOf, publicEvent}
 use Rattle.board_spec.specs.Rep.{Rep}

@@ -20,7 +20,9 @@ use Rattle.schedule.proofs.OnTime.{leaves, stays}
 use Rattle.solver_state.specs.declared.types.State.{State}
 use Rattle.stepping.specs.Stepping.{startOf, stepOf, stateFits}
 use Rattle.board_spec.specs.Layout.{quarterLength, acceptedAt, heldAt, turnsAt, kindAt, countAt}
-use Rattle.board_spec.specs.Machine.{Stepping, Storable, Request, stateAfter, outcomeAt}
+use Rattle.stepping.specs.States.{Request, stateAfter, outcomeAt}
+use Rattle.stepping.specs.Storable.{Storable}
+use Rattle.stepping.specs.Laws.{Stepping}
 use Rattle.board_spec.specs.Quarter.{loadCounters, loadValues, loadState, storeCounters, storeValues, storeState, firstTicket, slotOf, firstSlot, firstKind, firstJob, slotFits, slotsFit, runningFits, quarterFits, putJob, submitQuarter, stateOf, steppedOf, keptQuarter, freedQuarter, DidQuarter, turnQuarter}
 use Rattle.board_spec.specs.Board.{Turned}
 use Rattle.board_spec.specs.Run.{Bytes, recordOf, turnReply}
@@ -161,16 +163,6 @@ unfolding turnsOf
 turns-first c j js q r = r .turns
 
 module _ (L : Stepping) where
-  pub states-store : (kind n : ℕ) (block : Bytes) (k : ℕ) → Storable (stateAfter (view kind n block) k)
-  unfolding stateAfter
-  states-store kind n block zero = L .start-stores kind n block
-  states-store kind n block (suc k) = L .step-stores kind n block (stateAfter (view kind n block) k) (states-store kind n block k)
-
-  pub states-fit : (kind n : ℕ) (block : Bytes) → Request kind n block → (k : ℕ) → stateFits (stateAfter (view kind n block) k) ≡ true
-  unfolding stateAfter
-  states-fit kind n block ok zero = L .start-fits kind n block ok
-  states-fit kind n block ok (suc k) = L .step-fits (view kind n block) (stateAfter (view kind n block) k) (states-fit kind n block ok k)
-
   -- ---- 6 never comes
 
   slots-fit : {q : Bytes} {t : ℕ} {js : List (Held Bytes)} → Stands q t js → (s : ℕ) → s % 8 ≡ t % 8 → slotsFit q s (length js) ≡ true
@@ -186,7 +178,7 @@ module _ (L : Stepping) where
   running-fits c j js q r h =
       let k : 1 ≤ u64At q heldAt = rw (r .held) (omega arith) in
       let b : u64At q turnsAt < spanOf (firstKind q) = rw (turns-first c j js q r, first-in c j js q r .kind) (runs-below (r .running)) in
-      both _ _ (le-leb _ _ k) (both _ _ (lt-ltb _ _ b) (ap stateFits (runs-state (r .running) h) ∙ states-fit (j .kind) (j .n) (j .block) (first-in c j js q r .request) (j .turns)))
+      both _ _ (le-leb _ _ k) (both _ _ (lt-ltb _ _ b) (ap stateFits (runs-state (r .running) h) ∙ L .fits (j .kind) (j .n) (j .block) (first-in c j js q r .request) (j .turns)))
 
   turns-fit : (c : ℕ) (js : List (Held Bytes)) (q : Bytes) → RepQueue c js q → cond (eqb (u64At q turnsAt) 0) true (runningFits q) ≡ true
   unfolding turnsOf
@@ -416,7 +408,7 @@ module _ (L : Stepping) (c : ℕ) (j : Held Bytes) (js : List (Held Bytes)) (q :
       let q₁ = putU64 q turnsAt (u64At q turnsAt + 1) in
       let l₁ : length q₁ ≡ quarterLength = length-putNum 8 q turnsAt _ ∙ r .len in
       let h = head-state q₁ (steppedOf q) in
-      let st : Storable (steppedOf q) = rw stepped-is (states-store L (j .kind) (j .n) (j .block) (j .turns + 1)) in
+      let st : Storable (steppedOf q) = rw stepped-is (L .stores (j .kind) (j .n) (j .block) request-of (j .turns + 1)) in
       record {
         len = length-state q₁ (steppedOf q) ∙ l₁;
         accepted = h .0 ∙ get-put-before 8 8 q turnsAt _ acceptedAt refl ∙ r .accepted;

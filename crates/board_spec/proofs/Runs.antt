@@ -15,7 +15,7 @@ use Rattle.records.proofs.RecordLaws.{length-public, length-sealed}
 use Rattle.block.specs.View.{view}
 use Rattle.schedule.specs.Schedule.{Held, Schedule, Call, Submit, Turn, Look, Event, refused, accepted, served, looked, Verdict, accept, refuse, turnVerdict, verdict, serves, lookedAt, submitted, turnTaken, acts, judged, happens, events, afterAll, fresh, mapHeld, mapOut, mapEvent}
 use Rattle.schedule.proofs.Image.{maps-run}
-use Rattle.board_spec.specs.Machine.{Stepping}
+use Rattle.stepping.specs.Laws.{Stepping}
 use Rattle.board_spec.specs.Board.{Refused, Did, refusedDid, submitJudged, submitBoard, turnDid, turnJudged, turnBoard, lookJudged, lookBoard}
 use Rattle.board_spec.specs.Run.{Bytes, Calls, zeroBoard, did, boardAfter, Reply, replies, bufferOf, recordOf, turnReply, sightReply, replyOf, scheduled, fieldsOf, Public, turning, publicOf, publicOut, publicEvent}
 use Rattle.board_spec.specs.Rep.{Rep}

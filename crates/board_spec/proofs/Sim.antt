@@ -15,7 +15,8 @@ use Rattle.schedule.specs.Schedule.{Held, Queue, Schedule, Call, Submit, Turn, 
 use Rattle.schedule.proofs.Rounds.{onward-low}
 use Rattle.solver_state.specs.declared.types.State.{State}
 use Rattle.board_spec.specs.Layout.{boardLength, quarterLength, turnAt, acceptedAt, heldAt, turnsAt}
-use Rattle.board_spec.specs.Machine.{Stepping, Request, Sight, stateAfter}
+use Rattle.stepping.specs.States.{Request, Sight, stateAfter}
+use Rattle.stepping.specs.Laws.{Stepping}
 use Rattle.board_spec.specs.Quarter.{loadState, quarterFits, submitQuarter, DidQuarter, turnQuarter}
 use Rattle.board_spec.specs.Board.{quarterOf, withQuarter, boardFits, Ticket, Shown, Did, refusedDid, submitJudged, submitBoard, turnDid, turnJudged, turnBoard, lookJudged, lookBoard}
 use Rattle.board_spec.specs.Run.{Bytes, zeroBoard, did, Reply, replyBy, bufferOf, sightReply, replyOf}

@@ -1,5 +1,4 @@
 pub mod Layout
-pub mod Machine
 pub mod Quarter
 pub mod Board
 pub mod Run

@@ -13,7 +13,7 @@ use Rattle.schedule.specs.Spans.{kindFits, countFits, spanOf}
 use Rattle.solver_state.specs.declared.types.State.{State}
 use Rattle.stepping.specs.Stepping.{startOf, stepOf, stateFits}
 use Rattle.board_spec.specs.Layout.{acceptedAt, heldAt, turnsAt, evaluationsAt, latestAt, kindAt, countAt, blockAt}
-use Rattle.board_spec.specs.Machine.{outcomeAt}
+use Rattle.stepping.specs.States.{outcomeAt}
 
 -- ---- the running search
 

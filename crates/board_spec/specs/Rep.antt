@@ -8,7 +8,7 @@ use Rattle.block.specs.View.{view}
 use Rattle.schedule.specs.Spans.{spanOf}
 use Rattle.schedule.specs.Schedule.{Held, Schedule, turnsOf}
 use Rattle.board_spec.specs.Layout.{boardLength, quarterLength, turnAt, acceptedAt, heldAt, turnsAt, kindAt, countAt, blockAt}
-use Rattle.board_spec.specs.Machine.{Request, stateAfter}
+use Rattle.stepping.specs.States.{Request, stateAfter}
 use Rattle.board_spec.specs.Quarter.{loadState, slotOf}
 use Rattle.board_spec.specs.Board.{quarterOf}
 use Rattle.board_spec.specs.Run.{Bytes}

@@ -9,7 +9,7 @@ use Rattle.buf.specs.Bytes.{part, splice, zeros}
 use Rattle.records.specs.Record.{publicBytes, sealedOf}
 use Rattle.schedule.specs.Schedule.{Held, Schedule, Call, Submit, Turn, Look, Event, refused, accepted, served, looked, happens, mapCall}
 use Rattle.board_spec.specs.Layout.{boardLength}
-use Rattle.board_spec.specs.Machine.{Sight, sight}
+use Rattle.stepping.specs.States.{Sight, sight}
 use Rattle.board_spec.specs.Board.{Answer, Refused, Ticket, Turned, Shown, Did, submitBoard, turnBoard, lookBoard}
 
 abbrev pub Bytes : Type 0

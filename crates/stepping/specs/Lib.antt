@@ -1,1 +1,4 @@
 pub mod Stepping
+pub mod States
+pub mod Storable
+pub mod Laws
