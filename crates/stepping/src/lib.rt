@@ -1,5 +1,10 @@
-// A job of a request block, one evaluation at a time: what its steps are. specs/Stepping.antt has the definitions.
+// A job of a request block, one evaluation at a time. specs/ has the definitions, proofs/Laws.antt what holds of every job.
+mod jobs;
 mod types;
 
+pub use crate::jobs::fits;
+pub use crate::jobs::result;
+pub use crate::jobs::start;
+pub use crate::jobs::step;
 pub use crate::types::Ended;
 pub use crate::types::Work;

@@ -1,0 +1,196 @@
+// A job of a request block: its first state, one evaluation further, the range of a stored state, and its end.
+ghost use mathlib.Core.Path.{_≡_};
+ghost use Rattle.solver.specs.Evaluated.{evaluated};
+ghost use Rattle.stepping.specs.Stepping.{workOf, refusedState, startBy, startOf, stepBy, stepOf, atEnd, dataRefusal, stateFits, resultOf};
+use crate::types::Ended;
+use crate::types::Work;
+use block::Job;
+use block::Task;
+use eos::Blend;
+use solver::Counters;
+use solver::Numbers;
+use solver::Values;
+use solver_state::State;
+
+fn work(maxdensity: f64, task: Task) -> Work
+    ensures { λ r. ⌜ r ≡ workOf maxdensity task ⌝ }
+{
+    match task {
+        Task::Refused(number) => Work::Refused(number),
+        Task::DensityIteration(temperature, pressure, initial) => {
+            let c = solver_density::conditions(maxdensity, temperature, pressure, initial);
+            Work::Search(solver_state::Job::Density(c))
+        }
+        Task::DensityIterationStable(temperature, pressure) => {
+            Work::Search(solver_state::Job::StableDensity {
+                maxdensity,
+                temperature,
+                pressure,
+            })
+        }
+        Task::PressureSpinodal(temperature, start) => {
+            Work::Search(solver_state::Job::PressureSpinodal {
+                maxdensity,
+                temperature,
+                start,
+            })
+        }
+        Task::PressureSpinodalBranch(temperature, branch) => {
+            Work::Search(solver_state::Job::BranchSpinodal {
+                maxdensity,
+                temperature,
+                branch,
+            })
+        }
+        Task::CriticalPoint(temperature, density) => {
+            Work::Search(solver_state::Job::CriticalPoint {
+                maxdensity,
+                temperature,
+                density,
+            })
+        }
+        Task::Spinodal(temperature) => {
+            Work::Search(solver_state::Job::StabilitySpinodals {
+                maxdensity,
+                temperature,
+            })
+        }
+    }
+}
+
+fn refused(number: u64) -> State
+    ensures { λ r. ⌜ r ≡ refusedState number ⌝ }
+{
+    let counters = Counters {
+        stage: 0,
+        tag: 0,
+        status: number,
+        left: 0,
+        way: 0,
+        rounds: 0,
+    };
+    let values = Values {
+        first: 0.0,
+        second: 0.0,
+        third: 0.0,
+    };
+    State {
+        numbers: Numbers { counters, values },
+        evaluations: 0,
+        latest: 0.0,
+    }
+}
+
+fn start_by(work: Work) -> State
+    ensures { λ r. ⌜ r ≡ startBy work ⌝ }
+{
+    match work {
+        Work::Refused(number) => refused(number),
+        Work::Search(job) => solver_state::start(job),
+    }
+}
+
+// A job before its first evaluation.
+pub fn start(job: Job) -> State
+    ensures { λ r. ⌜ r ≡ startOf job ⌝ }
+{
+    let blend = job.blend;
+    let task = job.task;
+    start_by(work(eos::compute_max_density(blend), task))
+}
+
+fn step_by(blend: Blend, work: Work, state: State) -> State
+    ensures { λ r. ⌜ r ≡ stepBy (evaluated blend) work state ⌝ }
+{
+    match work {
+        Work::Refused(_) => state,
+        Work::Search(job) => {
+            // counted from 0 and added afterwards: a stored count may be any number of eight bytes
+            let numbers = state.numbers;
+            let uncounted = State {
+                numbers,
+                evaluations: 0,
+                latest: state.latest,
+            };
+            let next = solver_state::step(blend, job, uncounted);
+            let stepped = next.numbers;
+            State {
+                numbers: stepped,
+                evaluations: std::num::wrapping_add_u64(state.evaluations, next.evaluations),
+                latest: next.latest,
+            }
+        }
+    }
+}
+
+// One evaluation further, or the same state at an end.
+pub fn step(job: Job, state: State) -> State
+    ensures { λ r. ⌜ r ≡ stepOf job state ⌝ }
+{
+    let blend = job.blend;
+    let task = job.task;
+    step_by(blend, work(eos::compute_max_density(blend), task), state)
+}
+
+fn at_end(counters: Counters) -> bool
+    ensures { λ r. ⌜ r ≡ atEnd counters ⌝ }
+{
+    if counters.stage != 0 {
+        return false;
+    }
+    counters.tag == 0
+}
+
+fn data_refusal(counters: Counters) -> bool
+    ensures { λ r. ⌜ r ≡ dataRefusal counters ⌝ }
+{
+    if !at_end(counters) {
+        return false;
+    }
+    if counters.left != 0 {
+        return false;
+    }
+    if counters.way != 0 {
+        return false;
+    }
+    if counters.rounds != 0 {
+        return false;
+    }
+    if counters.status < 11 {
+        return false;
+    }
+    counters.status <= 16
+}
+
+// Whether a stored state's counters are in their ranges.
+pub fn fits(state: State) -> bool
+    ensures { λ r. ⌜ r ≡ stateFits state ⌝ }
+{
+    let numbers = state.numbers;
+    let counters = numbers.counters;
+    if solver::in_ranges(counters) {
+        return true;
+    }
+    data_refusal(counters)
+}
+
+// How a job ended.
+pub fn result(state: State) -> Ended
+    ensures { λ r. ⌜ r ≡ resultOf state ⌝ }
+{
+    let numbers = state.numbers;
+    let counters = numbers.counters;
+    if at_end(counters) {
+        let values = numbers.values;
+        return Ended {
+            status: counters.status,
+            values,
+        };
+    }
+    let values = Values {
+        first: 0.0,
+        second: 0.0,
+        third: 0.0,
+    };
+    Ended { status: 22, values }
+}
