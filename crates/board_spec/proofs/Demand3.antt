@@ -19,7 +19,6 @@ use Rattle.schedule.proofs.Rounds.{Round, round, four-once}
 use Rattle.schedule.proofs.Order.{order}
 use Rattle.schedule.proofs.OnTime as OnTime
 use Rattle.board_spec.specs.Layout.{turnAt}
-use Rattle.stepping.specs.Laws.{Stepping}
 use Rattle.board_spec.specs.Board.{Refused, Ticket, Did, quarterOf, turnBoard}
 use Rattle.board_spec.specs.Run.{Bytes, Calls, zeroBoard, did, boardAfter, Reply, replyBy, bufferOf, recordOf, turnReply, sightReply, replyOf, fieldsOf, publicEvent}
 use Rattle.board_spec.specs.Rep.{Rep}
@@ -74,13 +73,13 @@ open-next : (q : ℕ) (before : Calls) (c : Call Bytes) → OnTime.Open (happens
 unfolding afterAll
 open-next q before c = OnTime.open-kept length q (afterAll length fresh before) (c ∷ []) (OnTime.open-kept length q fresh before (open-fresh q))
 
-module _ (L : Stepping) (run : Calls) where
+module _ (run : Calls) where
   -- the board stands for the schedule at every place
   rep-at : (before : Calls) → Rep (afterAll length fresh before) (boardAfter zeroBoard before)
-  rep-at before = rep-after L fresh zeroBoard zero-rep before
+  rep-at before = rep-after fresh zeroBoard zero-rep before
 
   sim-at : (before : Calls) (c : Call Bytes) → Simulates (did (boardAfter zeroBoard before) c) (bufferOf c) (happens length (afterAll length fresh before) c)
-  sim-at before c = simulates L (afterAll length fresh before) (boardAfter zeroBoard before) (rep-at before) c
+  sim-at before c = simulates (afterAll length fresh before) (boardAfter zeroBoard before) (rep-at before) c
 
   answer-at : (before : Calls) (c : Call Bytes) → did (boardAfter zeroBoard before) c .answer ≡ replyOf (bufferOf c) (happens length (afterAll length fresh before) c .event) .answer
   unfolding replyBy
@@ -154,7 +153,7 @@ module _ (L : Stepping) (run : Calls) where
   others-kept p queue o e q h n =
       let s = served-by (afterAll length fresh (p .before)) (p .call) queue o e in
       ap (λ (d : Did). quarterOf (d .board) q) (turn-of (boardAfter zeroBoard (p .before)) (p .call) (bufferOf (p .call)) (s .is-turn))
-      ∙ turn-others L (afterAll length fresh (p .before)) (boardAfter zeroBoard (p .before)) (rep-at (p .before)) (bufferOf (p .call)) (s .verdict-is) q h (λ z. n (z ∙ sym (s .queue-is)))
+      ∙ turn-others (afterAll length fresh (p .before)) (boardAfter zeroBoard (p .before)) (rep-at (p .before)) (bufferOf (p .call)) (s .verdict-is) q h (λ z. n (z ∙ sym (s .queue-is)))
 
   round-run : Round 0 (queuesServed (events length fresh run))
   unfolding fresh
@@ -180,8 +179,8 @@ module _ (L : Stepping) (run : Calls) where
   pub orderly : Orderly run
   orderly =
       record {
-        as-scheduled = run-scheduled L fresh zeroBoard zero-rep run;
-        public-alone = public-told L run;
+        as-scheduled = run-scheduled fresh zeroBoard zero-rep run;
+        public-alone = public-told run;
         record-sealed = record-sealed;
         record-public = record-public;
         in-order = in-order;
@@ -201,22 +200,22 @@ sealed-alike : (kind n : ℕ) (s t : Bytes) → Alike kind n s t → sealedOf ki
 unfolding sealedOf
 sealed-alike kind n s t a = rw (view-alike kind n s t a)
 
-alike : (L : Stepping) (run run′ : Calls) → SealedAlike run run′
+alike : (run run′ : Calls) → SealedAlike run run′
 unfolding SealedAlike
-alike L run run′ x y ek en a =
-    record-sealed L run x
+alike run run′ x y ek en a =
+    record-sealed run x
     ∙ sealed-alike (x .job .kind) (x .job .n) (x .job .block) (y .job .block) a
     ∙ ap (λ (k : ℕ). sealedOf k (x .job .n) (y .job .block)) ek
     ∙ ap (λ (m : ℕ). sealedOf (y .job .kind) m (y .job .block)) en
-    ∙ sym (record-sealed L run′ y)
+    ∙ sym (record-sealed run′ y)
 
-pub demand-3 : Stepping → (run run′ : Calls) → fieldsOf run ≡ fieldsOf run′ → Demand3 run run′
-demand-3 L run run′ same =
+pub demand-3 : (run run′ : Calls) → fieldsOf run ≡ fieldsOf run′ → Demand3 run run′
+demand-3 run run′ same =
     record {
-      first = orderly L run;
-      second = orderly L run′;
-      public-same = public-told L run ∙ ap (λ (fs : List (Call ℕ)). map publicEvent (events (λ n. n) fresh fs)) same ∙ sym (public-told L run′);
-      alike-first = alike L run run;
-      alike-second = alike L run′ run′;
-      alike-across = alike L run run′;
+      first = orderly run;
+      second = orderly run′;
+      public-same = public-told run ∙ ap (λ (fs : List (Call ℕ)). map publicEvent (events (λ n. n) fresh fs)) same ∙ sym (public-told run′);
+      alike-first = alike run run;
+      alike-second = alike run′ run′;
+      alike-across = alike run run′;
     }

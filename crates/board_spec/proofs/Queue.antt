@@ -22,7 +22,7 @@ use Rattle.stepping.specs.Stepping.{startOf, stepOf, stateFits}
 use Rattle.board_spec.specs.Layout.{quarterLength, acceptedAt, heldAt, turnsAt, kindAt, countAt}
 use Rattle.stepping.specs.States.{Request, stateAfter, outcomeAt}
 use Rattle.stepping.specs.Storable.{Storable}
-use Rattle.stepping.specs.Laws.{Stepping}
+use Rattle.stepping.proofs.Laws.{stepping}
 use Rattle.board_spec.specs.Quarter.{loadCounters, loadValues, loadState, storeCounters, storeValues, storeState, firstTicket, slotOf, firstSlot, firstKind, firstJob, slotFits, slotsFit, runningFits, quarterFits, putJob, submitQuarter, stateOf, steppedOf, keptQuarter, freedQuarter, DidQuarter, turnQuarter}
 use Rattle.board_spec.specs.Board.{Turned}
 use Rattle.board_spec.specs.Run.{Bytes, recordOf, turnReply}
@@ -162,42 +162,41 @@ turns-first : (c : ℕ) (j : Held Bytes) (js : List (Held Bytes)) (q : Bytes) �
 unfolding turnsOf
 turns-first c j js q r = r .turns
 
-module _ (L : Stepping) where
-  -- ---- 6 never comes
+-- ---- 6 never comes
 
-  slots-fit : {q : Bytes} {t : ℕ} {js : List (Held Bytes)} → Stands q t js → (s : ℕ) → s % 8 ≡ t % 8 → slotsFit q s (length js) ≡ true
-  unfolding slotsFit slotFits
-  slots-fit no-more s e = refl
-  slots-fit {q} {t} (stands {j = j} {js = js} i ek rest) s e =
-      let ks : kindFits (u64At q (kindAt (slotOf s))) ≡ true = ap (λ (x : ℕ). kindFits (u64At q (kindAt x))) e ∙ ap kindFits (i .kind) ∙ i .request .kind-fits in
-      let ns : countFits (u64At q (countAt (slotOf s))) ≡ true = ap (λ (x : ℕ). countFits (u64At q (countAt x))) e ∙ ap countFits (i .n) ∙ i .request .count-fits in
-      both _ _ (both _ _ ks ns) (slots-fit rest (s + 1) (slot-next s t e))
+slots-fit : {q : Bytes} {t : ℕ} {js : List (Held Bytes)} → Stands q t js → (s : ℕ) → s % 8 ≡ t % 8 → slotsFit q s (length js) ≡ true
+unfolding slotsFit slotFits
+slots-fit no-more s e = refl
+slots-fit {q} {t} (stands {j = j} {js = js} i ek rest) s e =
+    let ks : kindFits (u64At q (kindAt (slotOf s))) ≡ true = ap (λ (x : ℕ). kindFits (u64At q (kindAt x))) e ∙ ap kindFits (i .kind) ∙ i .request .kind-fits in
+    let ns : countFits (u64At q (countAt (slotOf s))) ≡ true = ap (λ (x : ℕ). countFits (u64At q (countAt x))) e ∙ ap countFits (i .n) ∙ i .request .count-fits in
+    both _ _ (both _ _ ks ns) (slots-fit rest (s + 1) (slot-next s t e))
 
-  running-fits : (c : ℕ) (j : Held Bytes) (js : List (Held Bytes)) (q : Bytes) → RepQueue c (j ∷ js) q → 1 ≤ j .turns → runningFits q ≡ true
-  unfolding runningFits
-  running-fits c j js q r h =
-      let k : 1 ≤ u64At q heldAt = rw (r .held) (omega arith) in
-      let b : u64At q turnsAt < spanOf (firstKind q) = rw (turns-first c j js q r, first-in c j js q r .kind) (runs-below (r .running)) in
-      both _ _ (le-leb _ _ k) (both _ _ (lt-ltb _ _ b) (ap stateFits (runs-state (r .running) h) ∙ L .fits (j .kind) (j .n) (j .block) (first-in c j js q r .request) (j .turns)))
+running-fits : (c : ℕ) (j : Held Bytes) (js : List (Held Bytes)) (q : Bytes) → RepQueue c (j ∷ js) q → 1 ≤ j .turns → runningFits q ≡ true
+unfolding runningFits
+running-fits c j js q r h =
+    let k : 1 ≤ u64At q heldAt = rw (r .held) (omega arith) in
+    let b : u64At q turnsAt < spanOf (firstKind q) = rw (turns-first c j js q r, first-in c j js q r .kind) (runs-below (r .running)) in
+    both _ _ (le-leb _ _ k) (both _ _ (lt-ltb _ _ b) (ap stateFits (runs-state (r .running) h) ∙ stepping .fits (j .kind) (j .n) (j .block) (first-in c j js q r .request) (j .turns)))
 
-  turns-fit : (c : ℕ) (js : List (Held Bytes)) (q : Bytes) → RepQueue c js q → cond (eqb (u64At q turnsAt) 0) true (runningFits q) ≡ true
-  unfolding turnsOf
-  turns-fit c [] q r = rw (r .turns)
-  turns-fit c (j ∷ js) q r = go (eqb (u64At q turnsAt) 0) refl
-    where
-      go : (b : Bool) → eqb (u64At q turnsAt) 0 ≡ b → cond b true (runningFits q) ≡ true
-      go true e = refl
-      go false e =
-          let n = eqb-false (u64At q turnsAt) 0 e in
-          let t = turns-first c j js q r in
-          running-fits c j js q r (omega arith)
+turns-fit : (c : ℕ) (js : List (Held Bytes)) (q : Bytes) → RepQueue c js q → cond (eqb (u64At q turnsAt) 0) true (runningFits q) ≡ true
+unfolding turnsOf
+turns-fit c [] q r = rw (r .turns)
+turns-fit c (j ∷ js) q r = go (eqb (u64At q turnsAt) 0) refl
+  where
+    go : (b : Bool) → eqb (u64At q turnsAt) 0 ≡ b → cond b true (runningFits q) ≡ true
+    go true e = refl
+    go false e =
+        let n = eqb-false (u64At q turnsAt) 0 e in
+        let t = turns-first c j js q r in
+        running-fits c j js q r (omega arith)
 
-  pub quarter-fits : (c : ℕ) (js : List (Held Bytes)) (q : Bytes) → RepQueue c js q → quarterFits q ≡ true
-  unfolding quarterFits
-  quarter-fits c js q r =
-      let few : u64At q heldAt ≤ 8 = rw (r .held) (r .few) in
-      let slots : slotsFit q (firstTicket q) (u64At q heldAt) ≡ true = rw (r .held) (slots-fit (r .slots) (firstTicket q) (first-slot c js q r)) in
-      both _ _ (le-leb _ _ few) (both _ _ slots (turns-fit c js q r))
+pub quarter-fits : (c : ℕ) (js : List (Held Bytes)) (q : Bytes) → RepQueue c js q → quarterFits q ≡ true
+unfolding quarterFits
+quarter-fits c js q r =
+    let few : u64At q heldAt ≤ 8 = rw (r .held) (r .few) in
+    let slots : slotsFit q (firstTicket q) (u64At q heldAt) ≡ true = rw (r .held) (slots-fit (r .slots) (firstTicket q) (first-slot c js q r)) in
+    both _ _ (le-leb _ _ few) (both _ _ slots (turns-fit c js q r))
 
 -- ---- a job is added
 
@@ -333,7 +332,7 @@ turned-stands : {p : Bytes} {t : ℕ} {j : Held Bytes} {js : List (Held Bytes)} 
 unfolding turned
 turned-stands (stands i e rest) = stands (record { kind = i .kind; n = i .n; block = i .block; request = i .request }) e rest
 
-module _ (L : Stepping) (c : ℕ) (j : Held Bytes) (js : List (Held Bytes)) (q : Bytes) (r : RepQueue c (j ∷ js) q) where
+module _ (c : ℕ) (j : Held Bytes) (js : List (Held Bytes)) (q : Bytes) (r : RepQueue c (j ∷ js) q) where
   state-of : stateOf q ≡ stateAfter (jobOf j) (j .turns)
   unfolding stateOf
   state-of = go (eqb (u64At q turnsAt) 0) refl
@@ -366,7 +365,7 @@ module _ (L : Stepping) (c : ℕ) (j : Held Bytes) (js : List (Held Bytes)) (q :
   unfolding recordBytes recordOf turned
   record-is queue e =
       let s : sealedBytes (outcomeAt (steppedOf q)) ≡ sealedOf (j .kind) (j .n) (j .block) =
-      ap (λ (x : State). sealedBytes (outcomeAt x)) (stepped-is ∙ ap (stateAfter (jobOf j)) e) ∙ L .finished (j .kind) (j .n) (j .block) request-of in
+      ap (λ (x : State). sealedBytes (outcomeAt x)) (stepped-is ∙ ap (stateAfter (jobOf j)) e) ∙ stepping .finished (j .kind) (j .n) (j .block) request-of in
       rw (kind-is, ticket-is, s)
 
   -- ---- the job leaves
@@ -408,7 +407,7 @@ module _ (L : Stepping) (c : ℕ) (j : Held Bytes) (js : List (Held Bytes)) (q :
       let q₁ = putU64 q turnsAt (u64At q turnsAt + 1) in
       let l₁ : length q₁ ≡ quarterLength = length-putNum 8 q turnsAt _ ∙ r .len in
       let h = head-state q₁ (steppedOf q) in
-      let st : Storable (steppedOf q) = rw stepped-is (L .stores (j .kind) (j .n) (j .block) request-of (j .turns + 1)) in
+      let st : Storable (steppedOf q) = rw stepped-is (stepping .stores (j .kind) (j .n) (j .block) request-of (j .turns + 1)) in
       record {
         len = length-state q₁ (steppedOf q) ∙ l₁;
         accepted = h .0 ∙ get-put-before 8 8 q turnsAt _ acceptedAt refl ∙ r .accepted;
@@ -432,7 +431,7 @@ module _ (L : Stepping) (c : ℕ) (j : Held Bytes) (js : List (Held Bytes)) (q :
       let f : eqb (u64At q turnsAt + 1) (spanOf (firstKind q)) ≡ false = rw (turns-first c j js q r, kind-is) e in
       turns-by queue c (j ∷ js) q buffer _ _ (turn-on queue q buffer held-some f) (stays j js n) refl (kept-rep n)
 
-pub turn-rep : (L : Stepping) (queue c : ℕ) (js : List (Held Bytes)) (q buffer : Bytes) → RepQueue c js q → Turns queue c js q buffer
+pub turn-rep : (queue c : ℕ) (js : List (Held Bytes)) (q buffer : Bytes) → RepQueue c js q → Turns queue c js q buffer
 unfolding turnReply undergo
-turn-rep L queue c [] q buffer r = turns-by queue c [] q buffer _ (record { jobs = []; out = none }) (turn-idle queue q buffer (eq-eqb _ _ (r .held))) refl refl r
-turn-rep L queue c (j ∷ js) q buffer r = turn-some L c j js q r queue buffer (eqb (j .turns + 1) (spanOf (j .kind))) refl
+turn-rep queue c [] q buffer r = turns-by queue c [] q buffer _ (record { jobs = []; out = none }) (turn-idle queue q buffer (eq-eqb _ _ (r .held))) refl refl r
+turn-rep queue c (j ∷ js) q buffer r = turn-some c j js q r queue buffer (eqb (j .turns + 1) (spanOf (j .kind))) refl

@@ -15,7 +15,6 @@ use Rattle.records.proofs.RecordLaws.{length-public, length-sealed}
 use Rattle.block.specs.View.{view}
 use Rattle.schedule.specs.Schedule.{Held, Schedule, Call, Submit, Turn, Look, Event, refused, accepted, served, looked, Verdict, accept, refuse, turnVerdict, verdict, serves, lookedAt, submitted, turnTaken, acts, judged, happens, events, afterAll, fresh, mapHeld, mapOut, mapEvent}
 use Rattle.schedule.proofs.Image.{maps-run}
-use Rattle.stepping.specs.Laws.{Stepping}
 use Rattle.board_spec.specs.Board.{Refused, Did, refusedDid, submitJudged, submitBoard, turnDid, turnJudged, turnBoard, lookJudged, lookBoard}
 use Rattle.board_spec.specs.Run.{Bytes, Calls, zeroBoard, did, boardAfter, Reply, replies, bufferOf, recordOf, turnReply, sightReply, replyOf, scheduled, fieldsOf, Public, turning, publicOf, publicOut, publicEvent}
 use Rattle.board_spec.specs.Rep.{Rep}
@@ -24,17 +23,17 @@ use Rattle.schedule.proofs.Tests.{check-ok}
 
 -- ---- any number of calls
 
-pub rep-after : (L : Stepping) (σ : Schedule Bytes) (b : Bytes) → Rep σ b → (cs : Calls) → Rep (afterAll length σ cs) (boardAfter b cs)
+pub rep-after : (σ : Schedule Bytes) (b : Bytes) → Rep σ b → (cs : Calls) → Rep (afterAll length σ cs) (boardAfter b cs)
 unfolding afterAll boardAfter
-rep-after L σ b r [] = r
-rep-after L σ b r (c ∷ cs) = rep-after L (happens length σ c .after) (did b c .board) (simulates L σ b r c .rep) cs
+rep-after σ b r [] = r
+rep-after σ b r (c ∷ cs) = rep-after (happens length σ c .after) (did b c .board) (simulates σ b r c .rep) cs
 
-pub run-scheduled : (L : Stepping) (σ : Schedule Bytes) (b : Bytes) → Rep σ b → (cs : Calls) → replies b cs ≡ scheduled σ cs
+pub run-scheduled : (σ : Schedule Bytes) (b : Bytes) → Rep σ b → (cs : Calls) → replies b cs ≡ scheduled σ cs
 unfolding replies scheduled
-run-scheduled L σ b r [] = refl
-run-scheduled L σ b r (c ∷ cs) =
-    let s = simulates L σ b r c in
-    ap (λ (x : Reply). x ∷ replies (did b c .board) cs) (s .reply) ∙ ap (λ (l : List Reply). replyOf (bufferOf c) (happens length σ c .event) ∷ l) (run-scheduled L (happens length σ c .after) (did b c .board) (s .rep) cs)
+run-scheduled σ b r [] = refl
+run-scheduled σ b r (c ∷ cs) =
+    let s = simulates σ b r c in
+    ap (λ (x : Reply). x ∷ replies (did b c .board) cs) (s .reply) ∙ ap (λ (l : List Reply). replyOf (bufferOf c) (happens length σ c .event) ∷ l) (run-scheduled (happens length σ c .after) (did b c .board) (s .rep) cs)
 
 -- ---- a turn that is accepted has room for a record
 
@@ -118,10 +117,10 @@ public-run σ (c ∷ cs) =
     let rest = public-run (happens length σ c .after) cs in
     ap (λ (x : Public). x ∷ map publicOf (scheduled (happens length σ c .after) cs)) e ∙ ap (λ (l : List Public). publicEvent (mapEvent length (happens length σ c .event)) ∷ l) rest
 
-pub public-told : (L : Stepping) (cs : Calls) → map publicOf (replies zeroBoard cs) ≡ map publicEvent (events (λ n. n) fresh (fieldsOf cs))
+pub public-told : (cs : Calls) → map publicOf (replies zeroBoard cs) ≡ map publicEvent (events (λ n. n) fresh (fieldsOf cs))
 unfolding fieldsOf
-public-told L cs =
-    ap (λ (l : List Reply). map publicOf l) (run-scheduled L fresh zeroBoard zero-rep cs)
+public-told cs =
+    ap (λ (l : List Reply). map publicOf l) (run-scheduled fresh zeroBoard zero-rep cs)
     ∙ public-run fresh cs
     ∙ ap (λ (l : List (Event ℕ)). map publicEvent l) (sym (maps-run length length (λ n. n) (λ d. refl) cs))
 

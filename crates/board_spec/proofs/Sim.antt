@@ -16,7 +16,7 @@ use Rattle.schedule.proofs.Rounds.{onward-low}
 use Rattle.solver_state.specs.declared.types.State.{State}
 use Rattle.board_spec.specs.Layout.{boardLength, quarterLength, turnAt, acceptedAt, heldAt, turnsAt}
 use Rattle.stepping.specs.States.{Request, Sight, stateAfter}
-use Rattle.stepping.specs.Laws.{Stepping}
+use Rattle.stepping.proofs.Laws.{stepping}
 use Rattle.board_spec.specs.Quarter.{loadState, quarterFits, submitQuarter, DidQuarter, turnQuarter}
 use Rattle.board_spec.specs.Board.{quarterOf, withQuarter, boardFits, Ticket, Shown, Did, refusedDid, submitJudged, submitBoard, turnDid, turnJudged, turnBoard, lookJudged, lookBoard}
 use Rattle.board_spec.specs.Run.{Bytes, zeroBoard, did, Reply, replyBy, bufferOf, sightReply, replyOf}
@@ -57,11 +57,11 @@ turn-with b v q lv h = ap Rattle.buf.specs.Bytes.le (part-splice-after b (quart
 
 -- ---- a board that stands for a schedule passes 6
 
-pub rep-fits : (L : Stepping) (σ : Schedule Bytes) (b : Bytes) → Rep σ b → boardFits b ≡ true
+pub rep-fits : (σ : Schedule Bytes) (b : Bytes) → Rep σ b → boardFits b ≡ true
 unfolding boardFits
-rep-fits L σ b r =
+rep-fits σ b r =
     let low : u64At b turnAt < 4 = rw (r .turn) (omega (arith, r .low)) in
-    let q : (s : ℕ) → s ≤ 3 → quarterFits (quarterOf b s) ≡ true = λ s h. quarter-fits L _ _ (quarterOf b s) (r .each s h) in
+    let q : (s : ℕ) → s ≤ 3 → quarterFits (quarterOf b s) ≡ true = λ s h. quarter-fits _ _ (quarterOf b s) (r .each s h) in
     both _ _ (eq-eqb _ _ (r .len)) (both _ _ (lt-ltb _ _ low) (both _ _ (q 0 (omega arith)) (both _ _ (q 1 (omega arith)) (both _ _ (q 2 (omega arith)) (q 3 (omega arith))))))
 
 -- ---- the fresh board
@@ -171,9 +171,9 @@ pub record Simulates (d : Did) (buffer : Bytes) (h : Happened Bytes) : Type 0 wh
   pub reply : replyBy d ≡ replyOf buffer (h .event)
   pub rep : Rep (h .after) (d .board)
 
-module _ (L : Stepping) (σ : Schedule Bytes) (b : Bytes) (r : Rep σ b) where
+module _ (σ : Schedule Bytes) (b : Bytes) (r : Rep σ b) where
   fits : boardFits b ≡ true
-  fits = rep-fits L σ b r
+  fits = rep-fits σ b r
 
   six : (v : Verdict) → check (boardFits b) 6 v ≡ v
   six v = rw fits
@@ -215,7 +215,7 @@ module _ (L : Stepping) (σ : Schedule Bytes) (b : Bytes) (r : Rep σ b) where
 
   turn-taken : (buffer : Bytes) → Simulates (turnJudged b buffer accept) buffer (turnTaken σ)
   unfolding turnJudged turnDid turnTaken serves replyBy replyOf withJobs
-  turn-taken buffer = rw (r .turn) (at (turn-rep L (σ .turn) _ _ (quarterOf b (σ .turn)) buffer (r .each (σ .turn) (r .low))))
+  turn-taken buffer = rw (r .turn) (at (turn-rep (σ .turn) _ _ (quarterOf b (σ .turn)) buffer (r .each (σ .turn) (r .low))))
     where
       t : ℕ
       t = σ .turn
@@ -258,7 +258,7 @@ module _ (L : Stepping) (σ : Schedule Bytes) (b : Bytes) (r : Rep σ b) where
   look-first queue c (j ∷ js) rq h =
       let s = state-of (rq .running) h in
       ap (λ (x : State). record { answer = Shown (x .evaluations) (x .latest); buffer = [] }) s
-      ∙ sight-state (stateAfter (view (j .kind) (j .n) (j .block)) (j .turns)) _ (L .shows (j .kind) (j .n) (j .block) (request-of (rq .slots)) (j .turns))
+      ∙ sight-state (stateAfter (view (j .kind) (j .n) (j .block)) (j .turns)) _ (stepping .shows (j .kind) (j .n) (j .block) (request-of (rq .slots)) (j .turns))
     where
       state-of : Running (quarterOf b queue) (j ∷ js) → 1 ≤ j .turns → loadState (quarterOf b queue) ≡ stateAfter (view (j .kind) (j .n) (j .block)) (j .turns)
       state-of (runs below s w) k = s k
@@ -293,7 +293,7 @@ module _ (L : Stepping) (σ : Schedule Bytes) (b : Bytes) (r : Rep σ b) where
   turn-others buffer v q h n = rw (six (turnVerdict (length buffer)), v) others
     where
       rq : RepQueue (σ .queues (σ .turn) .count) (undergo (σ .queues (σ .turn) .jobs) .jobs) (turnQuarter (σ .turn) (quarterOf b (σ .turn)) buffer .quarter)
-      rq = turn-rep L (σ .turn) _ _ (quarterOf b (σ .turn)) buffer (r .each (σ .turn) (r .low)) .rep
+      rq = turn-rep (σ .turn) _ _ (quarterOf b (σ .turn)) buffer (r .each (σ .turn) (r .low)) .rep
 
       named : (t : ℕ) → t ≡ σ .turn → quarterOf (turnDid b t (turnQuarter t (quarterOf b t) buffer) .board) q ≡ quarterOf b q
       named t e = rw e (turned-others b (σ .turn) (turnQuarter (σ .turn) (quarterOf b (σ .turn)) buffer) (rq .len) q h n)

@@ -111,7 +111,7 @@ step-law (CriticalPoint maxdensity temperature density) ev s = critical-step ev 
 step-law (StabilitySpinodals maxdensity t) ev s = spinodals-step ev s maxdensity t _ refl
 
 -- a search begins with its tree
-begins : (job : Job) → leftOf job (beginOf job) ≡ settled (searchOf job)
+pub begins : (job : Job) → leftOf job (beginOf job) ≡ settled (searchOf job)
 unfolding leftOf beginOf searchOf
 begins (Density c) = ap (densityLeft c) (density-back (densityBegin c)) ∙ density-begins c
 begins (StableDensity maxdensity t p) = ap (stableLeft maxdensity t p) (stable-back (stableBegin maxdensity t p)) ∙ stable-begins maxdensity t p

@@ -1,1 +1,10 @@
 pub mod Yields
+pub mod YieldFloats
+pub mod DensityFloats
+pub mod CriticalFloats
+pub mod JobFloats
+pub mod Ends
+pub mod Sights
+pub mod Paths
+pub mod Refusals
+pub mod Laws

@@ -1,0 +1,164 @@
+-- The floats that a request's job works with, and those of each of its states, are values of binary64, whatever kind, N and block are. Assumes nothing.
+use Prim.Native.Nat.{ℕ, _+_}
+use mathlib.Core.Bool.{_&&_}
+use mathlib.Core.List.{List}
+use lib.ListN.{length}
+use lib.Dec.{leb, eqb}
+use lib.Ieee.{Float, binary64}
+use lib.Ieee.Fits.{div-fits}
+use Rattle.buf.proofs.Floats.{f64-fits}
+use Rattle.eos.specs.declared.types.Blend.{Blend}
+use Rattle.eos.specs.Cubic.{maxDensity}
+use Rattle.solver.specs.declared.types.DensityInitialization.{DensityInitialization}
+use Rattle.solver.specs.declared.types.DensityInitialization.the-variants.{Vapor, Liquid, InitialDensity}
+use Rattle.solver.specs.Search.{Evaluator}
+use Rattle.solver.specs.Evaluated.{evaluated}
+use Rattle.solver_density.specs.Density as Density
+use Rattle.solver_state.specs.declared.types.State.{State}
+use Rattle.solver_state.specs.declared.types.Job as Search
+use Rattle.solver_state.specs.State as Steps
+use Rattle.block.specs.declared.types.Conditions.{Conditions}
+use Rattle.block.specs.declared.types.Numbers.{Numbers}
+use Rattle.block.specs.declared.types.Task.{Task}
+use Rattle.block.specs.declared.types.Task.the-variants as Task
+use Rattle.block.specs.declared.types.Job.{Job}
+use Rattle.block.specs.Pairs.{pairsFit, offsetOf, conditions}
+use Rattle.block.specs.Numbers.{usesPressure, usesStart, choiceOf, pressureOf, conditionsOf, numbersOf}
+use Rattle.block.specs.Numbers as Read
+use Rattle.block.specs.Checks.{positive, plusZero, componentsFit, interactionsFit, fractionsFit, conditionsFit, choiceFits}
+use Rattle.block.specs.View.{initialOf, givenOf, taskOf, refused, readyOf, checked, view}
+use Rattle.stepping.specs.declared.types.Work.the-variants as Work
+use Rattle.stepping.specs.Stepping.{workOf, refusedState, startBy, startOf, uncounted, stepBy, stepOf}
+use Rattle.stepping.specs.Storable.{FloatsStorable}
+use Rattle.stepping.proofs.Yields.{YieldsFit}
+use Rattle.stepping.proofs.YieldFloats.{yields-fit}
+use Rattle.stepping.proofs.DensityFloats.{ConditionsFit, conditions-fit, density-begin, density-steps, stable-begin, stable-steps, spinodal-begin, spinodal-steps, branch-begin, branch-steps}
+use Rattle.stepping.proofs.CriticalFloats.{Held, StartFits, kept, f0-held, critical-begin, critical-steps, spinodals-begin, spinodals-steps}
+
+-- ---- a task's floats are read of the block, or +0
+abbrev pub InitialFits : DensityInitialization → Type 0
+InitialFits Vapor = Unit {0}
+InitialFits Liquid = Unit {0}
+InitialFits (InitialDensity ρ) = Held ρ
+
+abbrev pub TaskFits : Task → Type 0
+TaskFits (Task.Refused number) = Unit {0}
+TaskFits (Task.DensityIteration t p initial) = Held t × Held p × InitialFits initial
+TaskFits (Task.DensityIterationStable t p) = Held t × Held p
+TaskFits (Task.PressureSpinodal t start) = Held t × Held start
+TaskFits (Task.PressureSpinodalBranch t branch) = Held t
+TaskFits (Task.CriticalPoint t density) = StartFits t × StartFits density
+TaskFits (Task.Spinodal t) = Held t
+
+-- the conditions of a request as they are read
+record Given (c : Conditions) : Type 0 where
+  temperature : Held (c .temperature)
+  pressure : Held (c .pressure)
+  start : Held (c .start)
+
+conditions-read : (kind : ℕ) (s : List ℕ) (at : ℕ) → Given (conditionsOf kind s at)
+unfolding conditionsOf pressureOf Read.startOf
+conditions-read kind s at = record {
+  temperature = f64-fits s (at + 8);
+  pressure = kept Held (usesPressure kind) (f64-fits s (at + 16)) f0-held;
+  start = kept Held (usesStart kind (choiceOf kind s at)) (f64-fits s (at + 24)) f0-held;
+}
+
+initial-fits : (choice : ℕ) (ρ : Float) → Held ρ → InitialFits (initialOf choice ρ)
+unfolding initialOf
+initial-fits choice ρ h = kept InitialFits (eqb choice 0) tt (kept InitialFits (eqb choice 1) tt h)
+
+given-fits : (x : Float) → Held x → StartFits (givenOf x)
+unfolding givenOf
+given-fits x h = kept StartFits (plusZero x) tt h
+
+task-fits : (kind : ℕ) (c : Conditions) → Given c → TaskFits (taskOf kind c)
+unfolding taskOf
+task-fits kind c g =
+    kept TaskFits (eqb kind 1) (g .temperature, g .pressure, initial-fits (c .choice) (c .start) (g .start))
+    (kept TaskFits (eqb kind 2) (g .temperature, g .pressure)
+    (kept TaskFits (eqb kind 3) (g .temperature, g .start)
+    (kept TaskFits (eqb kind 4) (g .temperature)
+    (kept TaskFits (eqb kind 5) (given-fits (c .temperature) (g .temperature), given-fits (c .start) (g .start)) (g .temperature)))))
+
+abbrev JobFits : Job → Type 0
+JobFits job = TaskFits (job .task)
+
+ready-fits : (task : Task) (blend : Blend) → TaskFits task → JobFits (readyOf task blend)
+unfolding readyOf refused
+ready-fits task blend h = kept JobFits (positive (maxDensity blend)) h tt
+
+checked-fits : (kind n : ℕ) (d : Numbers) → Given (d .conditions) → JobFits (checked kind n d)
+unfolding checked refused
+checked-fits kind n d g =
+    kept JobFits (componentsFit n (d .coefficients))
+    (kept JobFits (interactionsFit n (d .interactions))
+    (kept JobFits (fractionsFit n (d .fractions))
+    (kept JobFits (conditionsFit kind (d .conditions))
+    (kept JobFits (choiceFits kind n (d .conditions .choice)) (ready-fits _ _ (task-fits kind (d .conditions) g)) tt) tt) tt) tt) tt
+
+-- a request is refused, or the floats of its task fit
+pub view-fits : (kind n : ℕ) (block : List ℕ) → TaskFits (view kind n block .task)
+unfolding view refused numbersOf
+view-fits kind n block =
+    kept JobFits (leb 1 kind && leb kind 6)
+    (kept JobFits (leb 1 n && leb n 8)
+    (kept JobFits (eqb (length block) 640)
+    (kept JobFits (pairsFit n block) (checked-fits kind n (numbersOf kind n block) (conditions-read kind block (offsetOf block conditions))) tt) tt) tt) tt
+
+-- and so does the maximum density of any blend
+pub max-density-fits : (blend : Blend) → Held (maxDensity blend)
+unfolding maxDensity
+max-density-fits blend = div-fits binary64 _ _
+
+-- ---- the states of a job
+
+-- a count put otherwise changes no float
+recounted : (job : Search.Job) (ev : Evaluator) → ((s : State) → FloatsStorable s → FloatsStorable (Steps.stepOf job ev s))
+    → (s : State) → FloatsStorable s → FloatsStorable (stepBy ev (Work.Search job) s)
+unfolding stepBy
+recounted job ev step s k =
+    let h = step (uncounted s) (record { values = k .values; latest = k .latest }) in
+    record { values = h .values; latest = h .latest }
+
+module _ (maxdensity : Float) (m : Held maxdensity) where
+  start-density : (t p : Float) (initial : DensityInitialization) → InitialFits initial → Held (Density.startOf maxdensity t p initial)
+  unfolding Density.startOf
+  start-density t p Vapor h = div-fits binary64 p t
+  start-density t p Liquid h = m
+  start-density t p (InitialDensity ρ) h = h
+
+  density-conditions : (t p : Float) (initial : DensityInitialization) → TaskFits (Task.DensityIteration t p initial) → ConditionsFit (Density.conditionsOf maxdensity t p initial)
+  density-conditions t p initial (ht, hp, hi) = conditions-fit maxdensity t p initial m ht hp (start-density t p initial hi)
+
+  begins : (task : Task) → TaskFits task → FloatsStorable (startBy (workOf maxdensity task))
+  unfolding workOf startBy refusedState
+  begins (Task.Refused number) h = record { values = record { first = f0-held; second = f0-held; third = f0-held }; latest = f0-held }
+  begins (Task.DensityIteration t p initial) h = density-begin _ (density-conditions t p initial h)
+  begins (Task.DensityIterationStable t p) (ht, hp) = stable-begin maxdensity t p m ht hp
+  begins (Task.PressureSpinodal t start) (ht, hs) = spinodal-begin maxdensity t start m ht hs
+  begins (Task.PressureSpinodalBranch t branch) ht = branch-begin maxdensity t branch m ht
+  begins (Task.CriticalPoint t density) (ht, hd) = critical-begin maxdensity t density ht hd
+  begins (Task.Spinodal t) ht = spinodals-begin maxdensity t
+
+  steps : (ev : Evaluator) → YieldsFit ev → (task : Task) → TaskFits task → (s : State) → FloatsStorable s → FloatsStorable (stepBy ev (workOf maxdensity task) s)
+  unfolding workOf
+  steps ev y (Task.Refused number) h = unfold stepBy in λ s k. k
+  steps ev y (Task.DensityIteration t p initial) h = recounted _ ev (λ s. density-steps _ ev s (density-conditions t p initial h) y)
+  steps ev y (Task.DensityIterationStable t p) (ht, hp) = recounted _ ev (λ s. stable-steps maxdensity t p ev s m ht hp y)
+  steps ev y (Task.PressureSpinodal t start) (ht, hs) = recounted _ ev (λ s. spinodal-steps maxdensity t start ev s m ht hs y)
+  steps ev y (Task.PressureSpinodalBranch t branch) ht = recounted _ ev (λ s. branch-steps maxdensity t branch ev s m ht y)
+  steps ev y (Task.CriticalPoint t density) (ht, hd) = recounted _ ev (λ s. critical-steps maxdensity t density ev s hd)
+  steps ev y (Task.Spinodal t) ht = recounted _ ev (λ s. spinodals-steps maxdensity t ev s)
+
+-- the first state
+pub start-floats : (kind n : ℕ) (block : List ℕ) → FloatsStorable (startOf (view kind n block))
+unfolding startOf
+start-floats kind n block = begins _ (max-density-fits (view kind n block .blend)) (view kind n block .task) (view-fits kind n block)
+
+-- and each step keeps it so
+pub step-floats : (kind n : ℕ) (block : List ℕ) (s : State) → FloatsStorable s → FloatsStorable (stepOf (view kind n block) s)
+unfolding stepOf
+step-floats kind n block s h =
+    steps _ (max-density-fits (view kind n block .blend)) (evaluated (view kind n block .blend)) (yields-fit (view kind n block .blend)) (view kind n block .task)
+    (view-fits kind n block) s h

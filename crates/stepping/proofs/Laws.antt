@@ -1,0 +1,198 @@
+-- Every job made one evaluation at a time: its states can be stored, are in range, show what the definition shows, and end as it ends. Assumes nothing.
+use mathlib.Core.Path.{_≡_, refl, sym, ap, _∙_, subst}
+use Prim.Native.Nat.{ℕ, zero, suc, _^_, _≤_, _<_}
+use native.Mathlib.Omega.{arith}
+use native.Mathlib.Nat.{le-refl}
+use mathlib.Core.Bool.{Bool, true, false, not, _&&_, _||_}
+use mathlib.Core.List.{List}
+use lib.Dec.{leb, ltb, eqb}
+use borrow.Author.Tests.{leb-true, ltb-true, eqb-true}
+use lib.Ieee.{Float}
+use Rattle.float.specs.Ops.{f0}
+use Rattle.float.specs.Sign.{finiteOf}
+use Rattle.eos.specs.Cubic.{maxDensity}
+use Rattle.solver.specs.declared.types.Answer.{Answer}
+use Rattle.solver.specs.declared.types.Counters.{Counters}
+use Rattle.solver.specs.declared.types.Numbers.{Numbers}
+use Rattle.solver.specs.Answer.{statusOf, valuesOf}
+use Rattle.solver.specs.Search.{Evaluator, Search, done, Going, run, after, fresh, settle, Within}
+use Rattle.solver.specs.Evaluated.{evaluated}
+use Rattle.solver.specs.Stored.{endedNumbers, statusFits, inRanges}
+use Rattle.solver.proofs.Ranges.{Below, below}
+use Rattle.solver.proofs.Steps.{finishes}
+use Rattle.solver_density.specs.Density.{densityIteration}
+use Rattle.solver_state.specs.declared.types.Job as Steps
+use Rattle.solver_state.specs.declared.types.State.{State}
+use Rattle.solver_state.specs.State.{searchOf, leftOf, going}
+use Rattle.block.specs.declared.types.Task.{Task}
+use Rattle.block.specs.declared.types.Task.the-variants as Task
+use Rattle.block.specs.View.{view}
+use Rattle.records.specs.declared.types.Outcome.{Outcome}
+use Rattle.records.specs.Outcome.{Course, refusedBy, searches, courseOf, refusedEnd, searchEnd, endOf, outcomeOf}
+use Rattle.records.specs.Record.{sealedBytes, sealedOf}
+use Rattle.records.specs.Span.{CourseWithin, refused-within, search-within}
+use Rattle.records.specs.Span as Records
+use Rattle.records.proofs.SpanLaws.{job-within}
+use Rattle.schedule.specs.Spans.{spanOf}
+use Rattle.stepping.specs.declared.types.Work.{Work}
+use Rattle.stepping.specs.declared.types.Work.the-variants as Work
+use Rattle.stepping.specs.Stepping.{workOf, refusedState, atEnd, dataRefusal, stateFits, resultOf}
+use Rattle.stepping.specs.States.{Request, stateAfter, outcomeAt, Sight, sightOf, sight}
+use Rattle.stepping.specs.Storable.{CountersStorable, FloatsStorable, Storable}
+use Rattle.stepping.specs.Laws.{Stepping}
+use Rattle.stepping.proofs.JobFloats.{start-floats, step-floats}
+use Rattle.stepping.proofs.Ends.{ends}
+use Rattle.stepping.proofs.Sights.{seen, seen-settled, seen-least}
+use Rattle.stepping.proofs.Paths.{path, along, count-low, path-fits, path-again, states, workIn, job-states}
+use Rattle.stepping.proofs.Refusals.{byData, refused-by-data}
+
+-- ---- the work of a task is its course
+
+courseBy : Work → Course
+courseBy (Work.Refused number) = refusedBy number
+courseBy (Work.Search job) = searches (searchOf job)
+
+course-work : (maxdensity : Float) (task : Task) → courseOf maxdensity task ≡ courseBy (workOf maxdensity task)
+unfolding courseOf courseBy workOf searchOf densityIteration
+course-work maxdensity (Task.Refused number) = refl
+course-work maxdensity (Task.DensityIteration t p initial) = refl
+course-work maxdensity (Task.DensityIterationStable t p) = refl
+course-work maxdensity (Task.PressureSpinodal t start) = refl
+course-work maxdensity (Task.PressureSpinodalBranch t branch) = refl
+course-work maxdensity (Task.CriticalPoint t density) = refl
+course-work maxdensity (Task.Spinodal t) = refl
+
+-- ---- in range
+
+-- refused by the data alone
+refusedByData : Work → Bool
+refusedByData (Work.Refused number) = leb 11 number && leb number 16
+refusedByData (Work.Search job) = true
+
+work-by-data : (maxdensity : Float) (task : Task) → byData task ≡ true → refusedByData (workOf maxdensity task) ≡ true
+unfolding workOf refusedByData byData
+work-by-data maxdensity (Task.Refused number) h = h
+work-by-data maxdensity (Task.DensityIteration t p initial) h = refl
+work-by-data maxdensity (Task.DensityIterationStable t p) h = refl
+work-by-data maxdensity (Task.PressureSpinodal t start) h = refl
+work-by-data maxdensity (Task.PressureSpinodalBranch t branch) h = refl
+work-by-data maxdensity (Task.CriticalPoint t density) h = refl
+work-by-data maxdensity (Task.Spinodal t) h = refl
+
+or-right : (a b : Bool) → b ≡ true → a || b ≡ true
+or-right true b h = refl
+or-right false b h = h
+
+or-left : (a b : Bool) → a ≡ true → a || b ≡ true
+or-left a b h = rw h
+
+states-fit : (ev : Evaluator) (w : Work) (k : ℕ) → refusedByData w ≡ true → stateFits (states ev w k) ≡ true
+unfolding states stateFits refusedByData refusedState dataRefusal atEnd
+states-fit ev (Work.Refused number) k h = or-right (inRanges (refusedState number .numbers .counters)) (leb 11 number && leb number 16) h
+states-fit ev (Work.Search job) k h = or-left _ _ (path-fits job ev k)
+
+work-data : (kind n : ℕ) (block : List ℕ) → Request kind n block → refusedByData (workIn (view kind n block)) ≡ true
+work-data kind n block r = work-by-data _ (view kind n block .task) (refused-by-data kind n block r)
+
+fits : (kind n : ℕ) (block : List ℕ) → Request kind n block → (turns : ℕ) → stateFits (stateAfter (view kind n block) turns) ≡ true
+fits kind n block r turns = ap stateFits (job-states (view kind n block) turns) ∙ states-fit _ (workIn (view kind n block)) turns (work-data kind n block r)
+
+-- ---- stored
+
+status-low : (status : ℕ) → statusFits status ≡ true → status < 28
+unfolding statusFits
+status-low status h = go (eqb status 0) refl (ltb status 21) refl (ltb status 28) refl h
+  where
+    go : (a : Bool) → eqb status 0 ≡ a → (b : Bool) → ltb status 21 ≡ b → (c : Bool) → ltb status 28 ≡ c → a || (not b && c) ≡ true → status < 28
+    go true e b f c g k = let z = eqb-true status 0 e in omega arith
+    go false e b f true g k = ltb-true status 28 g
+    go false e true f false g k = let z : _≡_ {A = ℕ} 0 1 = cc in absurd (omega arith)
+    go false e false f false g k = let z : _≡_ {A = ℕ} 0 1 = cc in absurd (omega arith)
+
+counters-store : (c : Counters) → inRanges c ≡ true → CountersStorable c
+counters-store c h =
+    let b = below c h in
+    let s = status-low (c .status) (b .status) in
+    let g = b .stage in
+    let t = b .tag in
+    let l = b .left in
+    let w = b .way in
+    let r = b .rounds in
+    record { stage = omega arith; tag = omega arith; status = omega arith; left = omega arith; way = omega arith; rounds = omega arith }
+
+both-low : (a b : Bool) → a && b ≡ true → b ≡ true
+both-low true b h = h
+both-low false b h = let z : _≡_ {A = ℕ} 0 1 = cc in absurd (omega arith)
+
+pub record Counted (s : State) : Type 0 where
+  pub counters : CountersStorable (s .numbers .counters)
+  pub evaluations : s .evaluations < 2 ^ 64
+
+states-counted : (ev : Evaluator) (w : Work) (k : ℕ) → refusedByData w ≡ true → Counted (states ev w k)
+unfolding states refusedByData refusedState
+states-counted ev (Work.Refused number) k h =
+    let l = leb-true number 16 (both-low (leb 11 number) (leb number 16) h) in
+    record {
+      counters = record { stage = omega arith; tag = omega arith; status = omega arith; left = omega arith; way = omega arith; rounds = omega arith };
+      evaluations = omega arith;
+    }
+states-counted ev (Work.Search job) k h = record { counters = counters-store _ (path-fits job ev k); evaluations = let c = count-low job ev k in omega arith }
+
+floats : (kind n : ℕ) (block : List ℕ) (turns : ℕ) → FloatsStorable (stateAfter (view kind n block) turns)
+unfolding stateAfter
+floats kind n block zero = start-floats kind n block
+floats kind n block (suc k) = step-floats kind n block (stateAfter (view kind n block) k) (floats kind n block k)
+
+stores : (kind n : ℕ) (block : List ℕ) → Request kind n block → (turns : ℕ) → Storable (stateAfter (view kind n block) turns)
+stores kind n block r turns =
+    let c = subst Counted (sym (job-states (view kind n block) turns)) (states-counted _ (workIn (view kind n block)) turns (work-data kind n block r)) in
+    record { counters = c .counters; evaluations = c .evaluations; floats = floats kind n block turns }
+
+-- ---- seen
+
+abbrev sightIn : State → Sight
+sightIn s = record { evaluations = s .evaluations; density = s .latest }
+
+states-show : (ev : Evaluator) (w : Work) (k : ℕ) → sightIn (states ev w k) ≡ sightOf ev k (courseBy w)
+unfolding states sightOf courseBy refusedState
+states-show ev (Work.Refused number) k = refl
+states-show ev (Work.Search job) k =
+    unfold going in (ap seen (along job ev k)) ∙ seen-settled finiteOf ev k (searchOf job) 0 f0 ∙ seen-least finiteOf ev (searchOf job) k 0 f0
+
+shows : (kind n : ℕ) (block : List ℕ) → Request kind n block → (turns : ℕ) → sightIn (stateAfter (view kind n block) turns) ≡ sight kind n block turns
+unfolding sight
+shows kind n block r turns =
+    let job = view kind n block in
+    ap sightIn (job-states job turns)
+    ∙ states-show (evaluated (job .blend)) (workIn job) turns
+    ∙ sym (ap (sightOf (evaluated (job .blend)) turns) (course-work (maxDensity (job .blend)) (job .task)))
+
+-- ---- at the end
+
+outcome-ended : (s : State) (a : Answer) (n : ℕ) → s .numbers ≡ endedNumbers a → s .evaluations ≡ n → outcomeAt s ≡ record { status = statusOf a; values = valuesOf a; evaluations = n }
+unfolding outcomeAt resultOf atEnd endedNumbers
+outcome-ended s a n e f = rw (e, f)
+
+states-end : (ev : Evaluator) (w : Work) (m : ℕ) → CourseWithin m (courseBy w) → outcomeAt (states ev w m) ≡ endOf ev (courseBy w)
+unfolding states courseBy endOf searchEnd going
+states-end ev (Work.Refused number) m h = unfold outcomeAt resultOf atEnd refusedState refusedEnd in refl
+states-end ev (Work.Search job) m (search-within w) =
+    let f = finishes finiteOf ev w m (le-refl m) 0 f0 in
+    let a = run finiteOf ev 0 (searchOf job) .answer in
+    let l : leftOf job (path job ev m .numbers) ≡ done a = ap (λ (g : Going). g .left) (along job ev m) ∙ f .0 in
+    let e : path job ev m .evaluations ≡ run finiteOf ev 0 (searchOf job) .evaluations = ap (λ (g : Going). g .evaluations) (along job ev m) ∙ f .1 in
+    outcome-ended (path job ev m) a _ (ends job ev (path job ev m .numbers) a (path-again job ev m) l) e
+
+finished : (kind n : ℕ) (block : List ℕ) → Request kind n block → sealedBytes (outcomeAt (stateAfter (view kind n block) (spanOf kind))) ≡ sealedOf kind n block
+unfolding sealedOf outcomeOf
+finished kind n block r =
+    let job = view kind n block in
+    let c = course-work (maxDensity (job .blend)) (job .task) in
+    let m : CourseWithin (spanOf kind) (courseBy (workIn job)) = subst (CourseWithin (spanOf kind)) c (unfold spanOf Records.spanOf in (job-within kind n block)) in
+    ap sealedBytes
+    (ap outcomeAt (job-states job (spanOf kind))
+    ∙ states-end (evaluated (job .blend)) (workIn job) (spanOf kind) m
+    ∙ sym (ap (endOf (evaluated (job .blend))) c))
+
+pub stepping : Stepping
+stepping = record { stores = stores; fits = fits; shows = shows; finished = finished }

@@ -1,0 +1,69 @@
+-- A request that submit accepts is refused by its data only, 11 to 16. Assumes nothing.
+use mathlib.Core.Path.{_≡_, refl}
+use Prim.Native.Nat.{ℕ}
+use mathlib.Core.Bool.{Bool, true, false, cond, _&&_}
+use mathlib.Core.List.{List}
+use lib.ListN.{length}
+use lib.Dec.{leb, eqb}
+use borrow.Author.Tests.{eq-eqb}
+use Rattle.eos.specs.Cubic.{maxDensity}
+use Rattle.block.specs.declared.types.Conditions.{Conditions}
+use Rattle.block.specs.declared.types.Job.{Job}
+use Rattle.block.specs.declared.types.Task.{Task}
+use Rattle.block.specs.declared.types.Task.the-variants.{Refused, DensityIteration, DensityIterationStable, PressureSpinodal, PressureSpinodalBranch, CriticalPoint, Spinodal}
+use Rattle.block.specs.Pairs.{pairsFit}
+use Rattle.block.specs.Numbers.{numbersOf}
+use Rattle.block.specs.Blend.{blendOf}
+use Rattle.block.specs.Checks.{positive, componentsFit, interactionsFit, fractionsFit, conditionsFit, choiceFits}
+use Rattle.block.specs.View.{initialOf, branchOf, givenOf, taskOf, searched, refused, check, readyOf, checked, view}
+use Rattle.stepping.specs.States.{Request}
+
+-- a search, or a refusal of the supplier's data
+unfoldable pub byData : Task → Bool
+byData (Refused number) = leb 11 number && leb number 16
+byData (DensityIteration t p initial) = true
+byData (DensityIterationStable t p) = true
+byData (PressureSpinodal t start) = true
+byData (PressureSpinodalBranch t branch) = true
+byData (CriticalPoint t density) = true
+byData (Spinodal t) = true
+
+-- `taskOf`, from the tests of the kind
+byKind : Conditions → (k₁ k₂ k₃ k₄ k₅ : Bool) → Task
+byKind c k₁ k₂ k₃ k₄ k₅ =
+    cond k₁ (DensityIteration (c .temperature) (c .pressure) (initialOf (c .choice) (c .start)))
+    (cond k₂ (DensityIterationStable (c .temperature) (c .pressure))
+    (cond k₃ (PressureSpinodal (c .temperature) (c .start))
+    (cond k₄ (PressureSpinodalBranch (c .temperature) (branchOf (c .choice)))
+    (cond k₅ (CriticalPoint (givenOf (c .temperature)) (givenOf (c .start))) (Spinodal (c .temperature))))))
+
+task-searches : (kind : ℕ) (c : Conditions) → byData (taskOf kind c) ≡ true
+unfolding taskOf byKind byData
+task-searches kind c = go (eqb kind 1) (eqb kind 2) (eqb kind 3) (eqb kind 4) (eqb kind 5)
+  where
+    go : (k₁ k₂ k₃ k₄ k₅ : Bool) → byData (byKind c k₁ k₂ k₃ k₄ k₅) ≡ true
+    go true k₂ k₃ k₄ k₅ = refl
+    go false true k₃ k₄ k₅ = refl
+    go false false true k₄ k₅ = refl
+    go false false false true k₅ = refl
+    go false false false false true = refl
+    go false false false false false = refl
+
+check-by-data : (ok : Bool) (number : ℕ) (next : Job) → leb 11 number && leb number 16 ≡ true → byData (next .task) ≡ true → byData (check ok number next .task) ≡ true
+unfolding refused byData
+check-by-data true number next m h = h
+check-by-data false number next m h = m
+
+pub refused-by-data : (kind n : ℕ) (block : List ℕ) → Request kind n block → byData (view kind n block .task) ≡ true
+unfolding view checked readyOf
+refused-by-data kind n block r =
+    let d = numbersOf kind n block in
+    let b = searched kind (d .conditions .choice) (blendOf n d) in
+    rw (r .kind-fits, r .count-fits, eq-eqb (length block) 640 (r .block-fits))
+    (check-by-data (pairsFit n block) 11 _ refl
+    (check-by-data (componentsFit n (d .coefficients)) 12 _ refl
+    (check-by-data (interactionsFit n (d .interactions)) 13 _ refl
+    (check-by-data (fractionsFit n (d .fractions)) 14 _ refl
+    (check-by-data (conditionsFit kind (d .conditions)) 15 _ refl
+    (check-by-data (choiceFits kind n (d .conditions .choice)) 16 _ refl
+    (check-by-data (positive (maxDensity b)) 16 _ refl (task-searches kind (d .conditions)))))))))
