@@ -8,3 +8,4 @@ pub mod Sights
 pub mod Paths
 pub mod Refusals
 pub mod Laws
+pub mod AnswerLaws

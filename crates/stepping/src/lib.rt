@@ -1,7 +1,11 @@
 // A job of a request block, one evaluation at a time. specs/ has the definitions, proofs/Laws.antt what holds of every job.
+mod answers;
 mod jobs;
 mod types;
 
+pub use crate::answers::after;
+pub use crate::answers::answer;
+pub use crate::answers::outcome;
 pub use crate::jobs::fits;
 pub use crate::jobs::result;
 pub use crate::jobs::start;
