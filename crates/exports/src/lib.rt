@@ -6,6 +6,7 @@ ghost use Rattle.float.specs.Ln.{lnOf};
 ghost use Rattle.jet.specs.Coefficients.{sumOf, productOf, quotientOf, rootOf, logarithmOf, cut};
 ghost use Rattle.eos.specs.Residual.{pDpdrho, pDpdrhoD2pdrho2, chemicalPotential};
 ghost use Rattle.eos.specs.Critical.{criticalityConditions, stabilityCondition};
+ghost use Rattle.records.specs.Answered.{numberOf, answered};
 ghost use Rattle.exports.specs.Rows.{blendOf, pressureRow, criticalityRow, stabilityRow};
 use eos::Blend;
 use jet::Jet;
@@ -252,4 +253,13 @@ pub extern "C" fn eos_stability_condition(
 {
     let y = eos::stability_condition(blend(n, tc, a, b, kappa, k_ij, x), t, rho);
     *r = [y.f, y.df];
+}
+
+// A whole job; a slice is a pointer and a length to C.
+#[no_mangle]
+pub extern "C" fn pr_answer(kind: u64, n: u64, block: &[u8], record: &mut [u8]) -> u64
+    ensures { λ r. ⌜ (r ≡ numberOf (answered kind n (now (block .entry)) (now («record» .entry)) .answer)) × (now («record» .exit) ≡ answered kind n (now (block .entry)) (now («record» .entry)) .bytes) ⌝ }
+{
+    let answered = records::answer(kind, n, block, record);
+    records::number(answered)
 }
