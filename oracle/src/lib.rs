@@ -2,6 +2,7 @@
 //! `run_request` answers a request; the five evaluations and the jets are public for vectors and benchmarks.
 
 pub mod block;
+pub mod board;
 pub mod critical_point;
 pub mod cubic;
 pub mod density_iteration;
@@ -13,6 +14,7 @@ pub mod random;
 pub mod residual;
 pub mod show;
 pub mod state;
+pub mod stepping;
 pub mod vectors;
 
 pub use block::{run_request, trace_request, Answer, BLOCK, REQUEST};
