@@ -141,9 +141,9 @@ enum Density {
 }
 
 impl Density {
-    /// The place at a tag; the end, tag 0, is told apart by the caller.
+    /// The place at a tag; the end, tag 0, is told apart by the caller. A way beyond the last is the last.
     fn read(s: &Stored) -> Self {
-        let (left, way, rounds, [rho, other, _]) = (s.left, s.way, s.rounds, s.floats);
+        let (left, rounds, [rho, other, _]) = (s.left, s.rounds, s.floats);
         match s.tag {
             1 => Density::First,
             2 => Density::Slope { left, rho },
@@ -154,19 +154,19 @@ impl Density {
             },
             4 => Density::Nearest {
                 left,
-                way,
+                way: s.way.min(2),
                 rounds,
                 rho,
             },
             5 => Density::Liquid {
                 left,
-                way,
+                way: s.way.min(1),
                 rounds,
                 rho,
             },
             _ => Density::Vapor {
                 left,
-                way,
+                way: s.way.min(1),
                 rounds,
                 rho,
                 rho_l: other,
