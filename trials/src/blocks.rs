@@ -17,10 +17,11 @@ fn place(kind: u64, n: u64) -> usize {
 }
 
 impl Blocks {
-    pub fn new(seed: u64, count: usize) -> Self {
+    /// What one chunk of a trial picks from.
+    pub fn new(seed: u64, chunk: u64) -> Self {
         let mut fitting = vec![Vec::new(); 48];
         let mut all = Vec::new();
-        for request in requests(seed, count) {
+        for request in requests(Rng::new(seed ^ chunk << 32).bits(), 6000) {
             let block: Block = request[2..].try_into().expect("640 bytes");
             let (kind, n) = (request[0].into(), request[1].into());
             if (1..=6).contains(&kind) && (1..=8).contains(&n) {

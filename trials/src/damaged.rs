@@ -4,11 +4,16 @@
 use crate::blocks::{damage_float, odd_float, Blocks};
 use crate::proved;
 use crate::report::{same, same_bytes, Difference, Options, Outcome, Progress, Tally};
+use oracle::block::check;
 use oracle::board::{
     self, block_at, count_at, fits, get, kind_at, put, span, Answer, ACCEPTED, BOARD, COUNTERS,
     EVALUATIONS, FLOATS, HELD, LATEST, QUARTER, RECORD, TURN, TURNS,
 };
+use oracle::critical_point::{critical_point, spinodal};
+use oracle::density_iteration::{_pressure_spinodal, _pressure_spinodal_branch};
+use oracle::evaluations::Evaluations;
 use oracle::random::Rng;
+use oracle::state::DensityInitialization::{Liquid, Vapor};
 use oracle::BLOCK;
 
 // ---- boards from runs
@@ -134,6 +139,32 @@ fn plausible(rng: &mut Rng) -> u64 {
     }
 }
 
+/// Densities, or a temperature and a density, at which a search of the first job converges or turns.
+fn telling(rng: &mut Rng, q: &[u8]) -> Option<[f64; 2]> {
+    let slot = first_slot(q);
+    let (kind, n) = (get(q, kind_at(slot)) as u8, get(q, count_at(slot)) as usize);
+    let block = &q[block_at(slot)..block_at(slot) + BLOCK];
+    let job = check(kind, n, block.try_into().expect("a whole block")).ok()?;
+    let (eos, x, t) = (&job.eos, &job.molefracs[..], job.temperature);
+    let evals = &mut Evaluations::default();
+    if kind == 5 || (kind == 6 && rng.once_in(2)) {
+        return critical_point(eos, x, None, None, evals).ok();
+    }
+    if kind == 6 {
+        let [vapor, liquid] = spinodal(eos, t, x, evals).ok()?;
+        return Some(rng.pick(&[[vapor, liquid], [liquid, vapor]]));
+    }
+    let max_density = eos.compute_max_density(x);
+    let other = max_density * rng.unit();
+    let rho = match rng.below(4) {
+        0 => _pressure_spinodal_branch(eos, t, x, Vapor, evals).ok()?.1,
+        1 => _pressure_spinodal_branch(eos, t, x, Liquid, evals).ok()?.1,
+        2 => _pressure_spinodal(eos, t, other, x, evals).ok()?.1,
+        _ => max_density * rng.pick(&[0.001, 0.1, 0.3, 0.6, 0.8, 0.86, 0.95, 1.0]),
+    };
+    Some([rho, other])
+}
+
 /// A running search with any numbers in their ranges, and the turn at its queue.
 fn any_place(rng: &mut Rng, board: &mut [u8], queue: usize) {
     put(board, TURN, queue as u64);
@@ -153,6 +184,12 @@ fn any_place(rng: &mut Rng, board: &mut [u8], queue: usize) {
     }
     for i in 0..3 {
         put(q, FLOATS + 8 * i, plausible(rng));
+    }
+    if rng.once_in(2) {
+        if let Some([x, y]) = telling(rng, q) {
+            put(q, FLOATS, x.to_bits());
+            put(q, FLOATS + 8, y.to_bits());
+        }
     }
     if rng.once_in(4) {
         put(q, EVALUATIONS, edge(rng));
@@ -402,10 +439,6 @@ fn try_calls(rng: &mut Rng, blocks: &Blocks, boards: &mut Boards, tally: &mut Ta
 const CHUNK: u64 = 200;
 const RUNS: u64 = 50;
 
-fn blocks_of(seed: u64, runs: u64) -> Blocks {
-    Blocks::new(Rng::new(seed ^ runs << 32).bits(), 6000)
-}
-
 /// The board goes to a file, so that the difference can be looked into without the trial.
 fn told(options: Options, item: u64, boards: &Boards, Difference(text): Difference) -> Difference {
     let path = std::env::temp_dir().join(format!("damaged-{}-{item}.board", options.seed));
@@ -426,18 +459,13 @@ pub fn run(options: Options, tally: &mut Tally, progress: &mut Progress) -> Outc
         oracle: Vec::new(),
     };
     let mut unseen = Tally::default();
-    let mut blocks = blocks_of(options.seed, options.first / CHUNK / RUNS);
+    let mut blocks = Blocks::new(options.seed, options.first / CHUNK / RUNS);
     let mut chunk = options.first / CHUNK;
     while chunk * CHUNK < end {
         if chunk % RUNS == 0 {
-            blocks = blocks_of(options.seed, chunk / RUNS);
+            blocks = Blocks::new(options.seed, chunk / RUNS);
         }
-        let mut rng = Rng::new(
-            options
-                .seed
-                .wrapping_mul(0x1_0000_0001)
-                .wrapping_add(chunk << 20),
-        );
+        let mut rng = options.rng(chunk);
         let mut run = fresh(&mut rng, &blocks);
         for item in chunk * CHUNK..end.min((chunk + 1) * CHUNK) {
             run.go_on(&mut rng, &blocks);

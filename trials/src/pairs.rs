@@ -330,22 +330,13 @@ fn one_list(
 /// So many pairs share the blocks to pick from.
 const CHUNK: u64 = 1000;
 
-fn blocks_of(seed: u64, chunk: u64) -> Blocks {
-    Blocks::new(Rng::new(seed ^ chunk << 32).bits(), 6000)
-}
-
 pub fn run(options: Options, tally: &mut Tally, progress: &mut Progress) -> Outcome {
-    let mut blocks = blocks_of(options.seed, options.first / CHUNK);
+    let mut blocks = Blocks::new(options.seed, options.first / CHUNK);
     for pair in options.first..options.first + options.count {
         if pair % CHUNK == 0 {
-            blocks = blocks_of(options.seed, pair / CHUNK);
+            blocks = Blocks::new(options.seed, pair / CHUNK);
         }
-        let mut rng = Rng::new(
-            options
-                .seed
-                .wrapping_mul(0x1_0000_0001)
-                .wrapping_add(pair << 20),
-        );
+        let mut rng = options.rng(pair);
         let theme = theme(&mut rng);
         let mut sides = [Side::new(), Side::new()];
         let mut schedule = Schedule::new();

@@ -1,5 +1,6 @@
 //! What every trial shares: its options, counts of what it saw, progress on a terminal, and how a difference is told.
 
+use oracle::random::Rng;
 use std::collections::BTreeMap;
 use std::io::{IsTerminal, Write};
 use std::time::Instant;
@@ -10,6 +11,17 @@ pub struct Options {
     pub count: u64,
     pub seed: u64,
     pub first: u64,
+}
+
+impl Options {
+    /// The random numbers of one item, the same whichever the trial begins with.
+    pub fn rng(&self, item: u64) -> Rng {
+        Rng::new(
+            self.seed
+                .wrapping_mul(0x1_0000_0001)
+                .wrapping_add(item << 20),
+        )
+    }
 }
 
 /// What two sides did not do alike.

@@ -37,6 +37,8 @@ fn expected(job: &Job<(u64, Request)>, queue: usize) -> [u8; RECORD] {
 struct Run<'a> {
     board: Vec<u8>,
     schedule: Schedule<(u64, Request)>,
+    /// the calls made
+    calls: u64,
     tally: &'a mut Tally,
 }
 
@@ -50,6 +52,7 @@ fn repeat(place: u64, request: &Request) -> String {
 
 impl Run<'_> {
     fn submit(&mut self, place: u64, request: Request) -> Outcome {
+        self.calls += 1;
         let (queue, kind, n) = (place % 4, request[0].into(), request[1].into());
         let said = proved::submit(&mut self.board, queue, kind, n, block(&request));
         let expected = self
@@ -67,13 +70,20 @@ impl Run<'_> {
     }
 
     fn turn(&mut self) -> Outcome {
+        self.calls += 1;
         let mut record = [0xa5; RECORD + 8];
         let said = proved::turn(&mut self.board, &mut record);
         let (queue, out) = self.schedule.turn(record.len()).expect("room");
         let mut should = [0xa5; RECORD + 8];
         let Some(job) = out else {
-            same("turn", said, Answer::Turned(0))?;
-            return same_bytes("buffer of a turn without a record", &record, &should);
+            return same("turn", said, Answer::Turned(0))
+                .and_then(|()| same_bytes("buffer of a turn without a record", &record, &should))
+                .map_err(|Difference(text)| {
+                    Difference(format!(
+                        "call {}, a turn of queue {queue}\n{text}",
+                        self.calls
+                    ))
+                });
         };
         should[..RECORD].copy_from_slice(&expected(&job, queue));
         let status = oracle::board::get(&should, 16);
@@ -92,6 +102,7 @@ pub fn run(options: Options, tally: &mut Tally, progress: &mut Progress) -> Outc
     let mut run = Run {
         board: vec![0; BOARD],
         schedule: Schedule::new(),
+        calls: 0,
         tally,
     };
     let end = options.first + options.count;
