@@ -1,0 +1,93 @@
+// A turn of a queue: one evaluation of its first job, which leaves with its record on the last turn of its span.
+ghost use mathlib.Core.Path.{_≡_};
+ghost use Prim.Native.Nat.{_+_, _≤_, _<_, _^_};
+ghost use mathlib.Core.Bool.{true};
+ghost use lib.ListN.{length};
+ghost use Rattle.buf.specs.Bytes.{u64At};
+ghost use Rattle.stepping.specs.States.{outcomeAt};
+ghost use Rattle.board_spec.specs.Layout.{heldAt, turnsAt};
+ghost use Rattle.board_spec.specs.Quarter.{firstJob, quarterFits, stateOf, steppedOf, keptQuarter, freedQuarter, turnQuarter};
+use crate::jobs::first_job;
+use crate::jobs::first_kind;
+use crate::jobs::first_ticket;
+use crate::ranges::span_of;
+use crate::state::load_state;
+use crate::state::store_state;
+use block::Job;
+use records::Outcome;
+use solver_state::State;
+
+// The state that the turn's evaluation goes on from. The job is the first one, passed on so that its block is read once.
+fn state_of(q: &[u8], job: Job) -> State
+    requires { ⌜ (length (now q) ≡ 6144) × (job ≡ firstJob (now q)) ⌝ }
+    ensures { λ r. ⌜ r ≡ stateOf (now (q .entry)) ⌝ }
+{
+    if buf::get_u64(q, 16) == 0 {
+        return stepping::start(job);
+    }
+    load_state(q)
+}
+
+fn stepped(q: &[u8]) -> State
+    requires { ⌜ length (now q) ≡ 6144 ⌝ }
+    ensures { λ r. ⌜ r ≡ steppedOf (now (q .entry)) ⌝ }
+{
+    let job = first_job(q);
+    let state = state_of(q, job);
+    stepping::step(job, state)
+}
+
+// The job stays, one turn further.
+fn keep(q: &mut [u8])
+    requires { ⌜ (length (now q) ≡ 6144) × (u64At (now q) turnsAt + 1 < 2 ^ 64) ⌝ }
+    ensures { λ _. ⌜ now (q .exit) ≡ keptQuarter (now (q .entry)) ⌝ }
+{
+    let state = stepped(q);
+    let turns = buf::get_u64(q, 16);
+    buf::put_u64(q, 16, turns + 1);
+    store_state(q, state);
+}
+
+// The job leaves.
+fn free(q: &mut [u8])
+    requires { ⌜ (length (now q) ≡ 6144) × (1 ≤ u64At (now q) heldAt) ⌝ }
+    ensures { λ _. ⌜ now (q .exit) ≡ freedQuarter (now (q .entry)) ⌝ }
+{
+    let held = buf::get_u64(q, 8);
+    buf::put_u64(q, 8, held - 1);
+    buf::put_u64(q, 16, 0);
+}
+
+// What the record states of a state.
+fn outcome(state: State) -> Outcome
+    ensures { λ r. ⌜ r ≡ outcomeAt state ⌝ }
+{
+    let ended = stepping::result(state);
+    let values = ended.values;
+    Outcome {
+        status: ended.status,
+        values,
+        evaluations: state.evaluations,
+    }
+}
+
+// Serves the queue once; 1 where its first job leaves and its record is written, else 0.
+pub fn turn_quarter(queue: u64, q: &mut [u8], buffer: &mut [u8]) -> u64
+    requires { ⌜ (length (now q) ≡ 6144) × (64 ≤ length (now buffer)) × (quarterFits (now q) ≡ true) ⌝ }
+    ensures { λ r. ⌜ (r ≡ turnQuarter queue (now (q .entry)) (now (buffer .entry)) .answer) × (now (q .exit) ≡ turnQuarter queue (now (q .entry)) (now (buffer .entry)) .quarter) × (now (buffer .exit) ≡ turnQuarter queue (now (q .entry)) (now (buffer .entry)) .buffer) ⌝ }
+{
+    if buf::get_u64(q, 8) == 0 {
+        return 0;
+    }
+    let kind = first_kind(q);
+    let turns = buf::get_u64(q, 16);
+    if turns + 1 == span_of(kind) {
+        let ticket = first_ticket(q);
+        let outcome = outcome(stepped(q));
+        records::write_record(buffer, ticket, kind, queue, outcome);
+        free(q);
+        return 1;
+    }
+    keep(q);
+    0
+}
