@@ -28,7 +28,6 @@ use Rattle.block.specs.View.{view}
 use Rattle.records.specs.Outcome.{Course, refusedBy, searches, courseOf, refusedEnd, searchEnd, endOf, outcomeOf}
 use Rattle.records.specs.Record.{sealedBytes, sealedOf}
 use Rattle.records.specs.Span.{CourseWithin, search-within}
-use Rattle.records.specs.Span as Records
 use Rattle.records.proofs.SpanLaws.{job-within}
 use Rattle.schedule.specs.Spans.{spanOf}
 use Rattle.stepping.specs.declared.types.Work.{Work}
@@ -185,7 +184,7 @@ unfolding sealedOf outcomeOf
 finished kind n block r =
     let job = view kind n block in
     let c = course-work (maxDensity (job .blend)) (job .task) in
-    let m : CourseWithin (spanOf kind) (courseBy (workIn job)) = subst (CourseWithin (spanOf kind)) c (unfold spanOf Records.spanOf in (job-within kind n block)) in
+    let m : CourseWithin (spanOf kind) (courseBy (workIn job)) = subst (CourseWithin (spanOf kind)) c (job-within kind n block) in
     ap sealedBytes
     (ap outcomeAt (job-states job (spanOf kind))
     ∙ states-end (evaluated (job .blend)) (workIn job) (spanOf kind) m
