@@ -34,7 +34,7 @@ countersAt = 24
 abbrev pub valuesAt : ℕ
 valuesAt = 72
 
--- the evaluations made, of a range that `stepping` tells,
+-- any number: the evaluations made, modulo 2^64,
 abbrev pub evaluationsAt : ℕ
 evaluationsAt = 96
 

@@ -1,14 +1,13 @@
 -- The residual Helmholtz energy, worked out one operation after the other in the first w coefficients. Assumes nothing.
 use mathlib.Core.Path.{_≡_, refl, sym, ap, _∙_}
 use Prim.Native.Nat.{ℕ, _+_, _*_, _≤_, _<_}
-use native.Mathlib.Omega.{arith}
 use mathlib.Core.List.{List}
 use lib.ListN.{take}
 use lib.Seq.{getD-take}
 use lib.Ieee.{Float, nan}
 use Rattle.float.specs.Ops.{f0}
 use Rattle.jet.specs.Coefficients.{at, Upto, cut, numberOf, sumOf, productOf}
-use Rattle.jet.specs.Ops.{_⊞_, _⊠_, _⧄_}
+use Rattle.jet.specs.Ops.{_⧄_}
 use Rattle.jet.proofs.Prefix.{add-upto, mul-upto}
 use Rattle.jet.proofs.Depends.{sum-first, product-first, quotient-first}
 use Rattle.eos.specs.declared.types.Blend.{Blend}

@@ -1,6 +1,6 @@
 -- The totals of specs/Indices.antt as loops from the first term, and which jets they keep alike. Assumes nothing.
-use mathlib.Core.Path.{_≡_, refl, sym, ap, _∙_, subst}
-use Prim.Native.Nat.{ℕ, zero, suc, _+_, _-_, _≤_, _<_}
+use mathlib.Core.Path.{_≡_, refl, sym, subst}
+use Prim.Native.Nat.{ℕ, _+_, _-_, _≤_, _<_}
 use native.Mathlib.Omega.{arith}
 use native.Mathlib.Numerals.{add-one}
 use native.Mathlib.Nat.{le-of-suc-le-suc, eq-or-lt-of-le}
@@ -15,7 +15,7 @@ use Rattle.jet.specs.Coefficients.{Upto, numberOf}
 use Rattle.jet.specs.Ops.{_⊞_, _⊠_}
 use Rattle.jet.proofs.Prefix.{add-upto}
 use Rattle.jet.proofs.Depends.{product-first}
-use Rattle.eos.specs.Indices.{foldFrom, jetTotal}
+use Rattle.eos.specs.Indices.{jetTotal}
 use Rattle.eos.specs.Jets.{jetAt}
 use Rattle.eos.specs.Cubic.{mixTerm, mixRow, akMix, bMix}
 use Rattle.eos.proofs.Folds.{Keeps, fold-cong, fold-keeps}

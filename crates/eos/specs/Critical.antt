@@ -1,6 +1,5 @@
 -- The evaluations of state/critical_point.rs for one component, on jets: e0 on the mole number or s, e1 on the temperature, e2 on the density.
 -- Definitions only.
-use Prim.Native.Nat.{ℕ}
 use mathlib.Core.Bool.{cond}
 use mathlib.Core.List.{List}
 use lib.Ieee.{Float, eq}

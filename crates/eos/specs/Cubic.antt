@@ -1,6 +1,6 @@
 -- cubic.rs: the parameters of a blend, its maximum density, and the Helmholtz energy of Peng and Robinson on jets. Definitions only.
-use Prim.Native.Nat.{ℕ, zero, suc, _+_, _*_, min}
-use mathlib.Core.Bool.{Bool, cond}
+use Prim.Native.Nat.{ℕ, min}
+use mathlib.Core.Bool.{cond}
 use mathlib.Core.List.{List, _∷_}
 use lib.ListN.{getD, replicate}
 use lib.Dec.{eqb, ltb}

@@ -4,7 +4,7 @@ ghost use mathlib.Core.Path.{_≡_};
 ghost use Prim.Native.Nat.{ℕ, _+_, _*_, _≤_, _<_};
 ghost use Rattle.float.specs.Ops.{_⊗_};
 ghost use Rattle.jet.specs.Coefficients.{Upto};
-ghost use Rattle.eos.specs.Indices.{total, jetTotal};
+ghost use Rattle.eos.specs.Indices.{total};
 ghost use Rattle.eos.specs.Jets.{jetAt};
 ghost use Rattle.eos.specs.Cubic.{nth, elementOf, componentOf, componentsOf, pureOf, maxDensity, akOf, mixTerm, mixRow, akMix, bMix, repulsion, logRatio, attraction, contribution};
 use crate::types::Blend;

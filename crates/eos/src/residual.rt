@@ -6,7 +6,7 @@ ghost use Rattle.jet.specs.Ops.{_⧄_};
 ghost use Rattle.eos.specs.Indices.{jetTotal};
 ghost use Rattle.eos.specs.Jets.{jetAt};
 ghost use Rattle.eos.specs.Cubic.{nth};
-ghost use Rattle.eos.specs.Residual.{energyDensity, helmholtz as helmholtzOf, alongVolume, derived, pressureFrom, slopeFrom, curvatureFrom, pDpdrho, pDpdrhoD2pdrho2, chemicalPotential};
+ghost use Rattle.eos.specs.Residual.{energyDensity, helmholtz as helmholtzOf, alongVolume, pressureFrom, slopeFrom, curvatureFrom, pDpdrho, pDpdrhoD2pdrho2, chemicalPotential};
 use crate::cubic::ak_mix;
 use crate::cubic::aks;
 use crate::cubic::b_mix;

@@ -1,19 +1,19 @@
 -- What holds of `build` for every rule: its length, its coefficients, the step of a loop that fills a jet, and that a coefficient depends on
 -- positions not above its own only. Assumes nothing.
-use mathlib.Core.Path.{_≡_, refl, sym, ap, _∙_, subst}
+use mathlib.Core.Path.{_≡_, refl, sym, ap, _∙_}
 use mathlib.Core.Logic.{⊎-elim}
 use Prim.Native.Nat.{ℕ, zero, suc, _+_, _-_, _≤_, _<_}
 use native.Mathlib.Omega.{arith}
 use native.Mathlib.Numerals.{add-one}
-use native.Mathlib.Nat.{add-zero, eq-or-lt-of-le, le-of-suc-le-suc, not-suc-le-zero}
-use mathlib.Core.Bool.{Bool, true, false}
+use native.Mathlib.Nat.{eq-or-lt-of-le, le-of-suc-le-suc, not-suc-le-zero}
+use mathlib.Core.Bool.{true}
 use mathlib.Core.List.{List, [], _∷_, _++_, append-assoc, append-nil}
-use lib.ListN.{length, getD, take, drop, set, replicate, length-append, length-take, length-replicate, List·getD-append}
-use lib.Seq.{take-append-le, take-all, take-suc, getD-at, getD-take, set-at, ext-getD, length-take-le, take-take}
+use lib.ListN.{length, take, set, replicate, length-append, length-replicate, List·getD-append}
+use lib.Seq.{take-append-le, take-all, getD-at, getD-take, set-at, length-take-le}
 use lib.Ieee.{Float, nan}
 use Rattle.float.specs.Ops.{f0}
 use Rattle.jet.specs.Positions.{positions, notAbove}
-use Rattle.jet.specs.Coefficients.{at, append, build, cut}
+use Rattle.jet.specs.Coefficients.{at, build, cut}
 use Rattle.jet.proofs.Among.{through}
 
 -- a rule for the coefficient m that reads, of those before it, only the ones not above m

@@ -11,11 +11,11 @@ use lib.Seq.{ext-getD, getD-take, take-at, take-take, length-take-le}
 use lib.Dec.{leb, eqb}
 use borrow.Author.Tests.{leb-true, leb-false}
 use lib.Ieee.{Float, nan}
-use Rattle.float.specs.Ops.{_⊕_, _⊖_, _⊗_, _⊘_, f0, f2}
+use Rattle.float.specs.Ops.{_⊕_, _⊗_, f0}
 use Rattle.float.specs.Root.{root}
 use Rattle.float.specs.Ln.{lnOf}
-use Rattle.jet.specs.Positions.{positions, degree0, degree1, degree2, notAbove, among, pairsOf, before, between, weightOf}
-use Rattle.jet.specs.Coefficients.{at, build, total, less, cut, productAt, productOf, quotientAt, quotientOf, rootAt, rootOf, logarithmAt, logarithmOf, sumAt, sumOf, differenceAt, differenceOf, factorialOf, derivativeAt, derivativeOf}
+use Rattle.jet.specs.Positions.{positions, notAbove, among, pairsOf, before, between, weightOf}
+use Rattle.jet.specs.Coefficients.{at, build, total, cut, productAt, productOf, quotientAt, quotientOf, rootAt, rootOf, logarithmAt, logarithmOf, sumAt, sumOf, differenceAt, differenceOf, factorialOf, derivativeAt, derivativeOf}
 use Rattle.jet.proofs.Every.{Every, none, more, every-map, fold-cong}
 use Rattle.jet.proofs.Among.{In, amongs, told, least, itself, through, rest}
 use Rattle.jet.proofs.Build.{length-build, build-at, depends}

@@ -1,14 +1,13 @@
 -- Each coefficient rule reads, of the coefficients before its own, only those at positions not above it. Assumes nothing.
-use mathlib.Core.Path.{_≡_, refl, sym, ap, _∙_}
-use Prim.Native.Nat.{ℕ, zero, suc, _+_, _-_, _≤_, _<_}
+use mathlib.Core.Path.{_≡_, refl, ap}
+use Prim.Native.Nat.{ℕ, zero, suc, _-_}
 use native.Mathlib.Omega.{arith}
-use mathlib.Core.Bool.{true}
 use mathlib.Core.List.{List}
 use lib.Ieee.{Float}
-use Rattle.float.specs.Ops.{_⊖_, _⊗_, _⊘_, f2}
-use Rattle.jet.specs.Positions.{notAbove, among, before, between, weightOf}
-use Rattle.jet.specs.Coefficients.{at, less, sumAt, differenceAt, negationAt, productAt, quotientAt, rootAt, logarithmAt, derivativeAt}
-use Rattle.jet.proofs.Every.{Every, every-map, fold-cong}
+use Rattle.float.specs.Ops.{_⊖_, _⊗_, _⊘_}
+use Rattle.jet.specs.Positions.{among, before, between, weightOf}
+use Rattle.jet.specs.Coefficients.{at, less, quotientAt, rootAt, logarithmAt}
+use Rattle.jet.proofs.Every.{every-map, fold-cong}
 use Rattle.jet.proofs.Among.{In, amongs, least, rest}
 use Rattle.jet.proofs.Build.{Local}
 

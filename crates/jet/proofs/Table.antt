@@ -7,11 +7,11 @@ use native.Mathlib.Omega.{arith}
 use native.Mathlib.Numerals.{add-one}
 use native.Mathlib.Nat.{le-of-suc-le-suc, not-suc-le-zero, eq-or-lt-of-le}
 use mathlib.Core.List.{List, [], _∷_, map}
-use lib.Dec.{T, eqb, eqb→eq}
+use lib.Dec.{eqb, eqb→eq}
 use lib.ListN.{length, getD, length-append, length-map, List·getD-append}
 use lib.Seq.{getD-append-add}
 use Rattle.jet.specs.Positions.{positions, notAbove, among, pairsOf, tableOf}
-use Rattle.jet.proofs.Every.{each, each-at, every-at}
+use Rattle.jet.proofs.Every.{each-at, every-at}
 use Rattle.jet.proofs.Among.{In, amongs}
 
 -- the constant `ROWS` of src/pairs.rt

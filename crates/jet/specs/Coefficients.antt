@@ -1,7 +1,7 @@
 -- The rules of document 01's stand-ins for a jet's coefficients. A jet is the list of its coefficients. Definitions only.
 use mathlib.Core.Path.{_≡_}
 use Prim.Native.Nat.{ℕ, zero, suc, _+_, _-_, _*_}
-use mathlib.Core.Bool.{Bool, cond, _&&_}
+use mathlib.Core.Bool.{cond, _&&_}
 use mathlib.Core.List.{List, [], _∷_, _++_, foldl}
 use lib.ListN.{getD, set, take, replicate}
 use lib.IntN.{pos}

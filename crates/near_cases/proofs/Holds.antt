@@ -1,13 +1,18 @@
 -- The near cases hold: each is computed from the definitions. Assumes nothing.
-use mathlib.Core.Path.{refl}
+use mathlib.Core.Path.{_≡_, refl, ap, _∙_}
+use Prim.Native.Nat.{ℕ, zero, suc}
+use mathlib.Core.List.{List, [], _∷_, map}
+use lib.ListN.{length}
 use lib.Ieee.{ofBits, ofInt, neg, size, round, add, sub, mul, div, le}
 use Rattle.float.specs.Above.{above}
 use Rattle.float.specs.Root.{isqrtIn, isqrt, sticky, rootOf as floatRootOf, root}
 use Rattle.float.specs.Ln.{oddRecip, horner, series, reducedLn, lnAt, lnUnits, lnOf}
 use Rattle.jet.specs.Positions.{notAbove, among, pairsOf, before, between, weightOf}
 use Rattle.jet.specs.Coefficients.{build, numberOf, markedOf, less, quotientAt, quotientOf, recipOf, rootAt, rootOf, logarithmAt, logarithmOf}
-use Rattle.schedule.specs.Schedule.{submitVerdict, verdict, put, entered, submitted, acts, judged, happens, events, fresh}
-use Rattle.near_cases.specs.NearCases.{FloatCases, JetCases, submits, BoardCases, NearCases}
+use Rattle.schedule.specs.Schedule.{Call, Submit, submitVerdict, verdict, put, entered, submitted, acts, judged, happens, events, fresh, mapCall}
+use Rattle.board_spec.specs.Run.{Bytes, fieldsOf, publicEvent}
+use Rattle.board_spec.proofs.Runs.{public-told}
+use Rattle.near_cases.specs.NearCases.{FloatCases, JetCases, submits, answers, BoardCases, NearCases}
 
 float-cases : FloatCases
 unfolding root floatRootOf sticky isqrt isqrtIn lnOf lnUnits lnAt reducedLn series horner oddRecip above ofBits ofInt neg size round add sub mul div le
@@ -28,13 +33,27 @@ jet-cases = record {
   ln-of-1-plus-e0 = refl;
 }
 
+-- so many submits with a block of 640 bytes, by their public fields
+sized : (times kind n : ℕ) → List (Call ℕ)
+sized zero kind n = []
+sized (suc k) kind n = Submit 0 kind n 640 ∷ sized k kind n
+
+fields : (times kind n : ℕ) (block : Bytes) → length block ≡ 640 → fieldsOf (submits times kind n block) ≡ sized times kind n
+unfolding fieldsOf submits sized mapCall
+fields zero kind n block e = refl
+fields (suc k) kind n block e = ap (λ (m : ℕ). Submit 0 kind n m ∷ fieldsOf (submits k kind n block)) e ∙ ap (λ (cs : List (Call ℕ)). Submit 0 kind n 640 ∷ cs) (fields k kind n block e)
+
+-- a fresh board's answers come from the public fields, which are those of a block of 640 bytes
+told : (times kind n : ℕ) (block : Bytes) → length block ≡ 640 → answers (submits times kind n block) ≡ map publicEvent (events (λ m. m) fresh (sized times kind n))
+told times kind n block e = public-told (submits times kind n block) ∙ ap (λ (fs : List (Call ℕ)). map publicEvent (events (λ m. m) fresh fs)) (fields times kind n block e)
+
 board-cases : BoardCases
-unfolding submits events fresh happens judged verdict submitVerdict acts submitted put entered
+unfolding events fresh happens judged verdict submitVerdict acts submitted put entered publicEvent sized
 board-cases = record {
-  eighth-accepted = refl;
-  ninth-4 = refl;
-  n-8-accepted = refl;
-  n-9-refused-3 = refl;
+  eighth-accepted = λ block e. told 8 1 1 block e;
+  ninth-4 = λ block e. told 9 1 1 block e;
+  n-8-accepted = λ block e. told 1 1 8 block e;
+  n-9-refused-3 = λ block e. told 1 1 9 block e;
 }
 
 pub near-cases : NearCases

@@ -2,14 +2,15 @@
 use Prim.Native.Nat.{ℕ, zero, suc, _-_}
 use mathlib.Core.Path.{_≡_}
 use mathlib.Core.Bool.{false}
-use mathlib.Core.List.{List, [], _∷_}
-use lib.ListN.{replicate}
+use mathlib.Core.List.{List, [], _∷_, map}
+use lib.ListN.{length, replicate}
 use lib.IntN.{ℤ, pos, negsuc}
 use lib.Ieee.{Float, fin, neg, binary64, ofBits}
 use Rattle.float.specs.Ops.{f0, f1, f2}
 use Rattle.float.specs.Root.{root}
 use Rattle.float.specs.Ln.{ln2, lnOf}
-use Rattle.schedule.specs.Schedule.{Call, Submit, Event, refused, accepted, events, fresh}
+use Rattle.schedule.specs.Schedule.{Submit}
+use Rattle.board_spec.specs.Run.{Bytes, Calls, Public, refusal, ticketed, zeroBoard, replies, publicOf}
 use Rattle.jet.specs.Positions.{positions}
 use Rattle.jet.specs.Coefficients.{markedOf, recipOf, rootOf, logarithmOf}
 
@@ -40,20 +41,23 @@ pub record JetCases : Type 0 where
   pub root-of-1-plus-e0 : rootOf one-plus-e0 ≡ in-e0 f1 (twoTo (negsuc 0)) (neg (twoTo (negsuc 2))) (twoTo (negsuc 3))
   pub ln-of-1-plus-e0 : logarithmOf one-plus-e0 ≡ in-e0 f0 f1 (neg (twoTo (negsuc 0))) (ofBits binary64 0x3FD5555555555555)
 
--- what a run of n submits of the same kind, N and block size to queue 0 of a fresh board does; demand 3 says that the board replies so
-unfoldable pub submits : (times kind n size : ℕ) → List (Event ℕ)
-submits times kind n size = events (λ m. m) fresh (again times)
-  where
-    again : ℕ → List (Call ℕ)
-    again zero = []
-    again (suc k) = Submit 0 kind n size ∷ again k
+-- so many submits of the same job to queue 0
+unfoldable pub submits : (times kind n : ℕ) → Bytes → Calls
+submits zero kind n block = []
+submits (suc k) kind n block = Submit 0 kind n block ∷ submits k kind n block
 
--- "eighth job accepted, ninth 4." "N of 8 accepted, 9 refused 3."
+-- what a fresh board answers to a run
+abbrev pub answers : Calls → List Public
+answers run = map publicOf (replies zeroBoard run)
+
+-- "eighth job accepted, ninth 4." "N of 8 accepted, 9 refused 3." Whatever the block holds.
 pub record BoardCases : Type 0 where
-  pub eighth-accepted : submits 8 1 1 640 ≡ accepted 0 ∷ accepted 1 ∷ accepted 2 ∷ accepted 3 ∷ accepted 4 ∷ accepted 5 ∷ accepted 6 ∷ accepted 7 ∷ []
-  pub ninth-4 : submits 9 1 1 640 ≡ accepted 0 ∷ accepted 1 ∷ accepted 2 ∷ accepted 3 ∷ accepted 4 ∷ accepted 5 ∷ accepted 6 ∷ accepted 7 ∷ refused 4 ∷ []
-  pub n-8-accepted : submits 1 1 8 640 ≡ accepted 0 ∷ []
-  pub n-9-refused-3 : submits 1 1 9 640 ≡ refused 3 ∷ []
+  pub eighth-accepted : (block : Bytes) → length block ≡ 640
+      → answers (submits 8 1 1 block) ≡ ticketed 0 ∷ ticketed 1 ∷ ticketed 2 ∷ ticketed 3 ∷ ticketed 4 ∷ ticketed 5 ∷ ticketed 6 ∷ ticketed 7 ∷ []
+  pub ninth-4 : (block : Bytes) → length block ≡ 640
+      → answers (submits 9 1 1 block) ≡ ticketed 0 ∷ ticketed 1 ∷ ticketed 2 ∷ ticketed 3 ∷ ticketed 4 ∷ ticketed 5 ∷ ticketed 6 ∷ ticketed 7 ∷ refusal 4 ∷ []
+  pub n-8-accepted : (block : Bytes) → length block ≡ 640 → answers (submits 1 1 8 block) ≡ ticketed 0 ∷ []
+  pub n-9-refused-3 : (block : Bytes) → length block ≡ 640 → answers (submits 1 1 9 block) ≡ refusal 3 ∷ []
 
 -- A layer above adds its record here.
 pub record NearCases : Type 0 where

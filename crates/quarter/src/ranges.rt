@@ -2,60 +2,19 @@
 ghost use mathlib.Core.Path.{_≡_};
 ghost use Prim.Native.Nat.{_≤_, _<_};
 ghost use lib.ListN.{length};
-ghost use Rattle.schedule.specs.Spans.{kindFits, countFits, spanOf};
 ghost use Rattle.board_spec.specs.Quarter.{slotFits, slotsFit, runningFits, quarterFits};
 use crate::jobs::first_kind;
 use crate::jobs::first_ticket;
 use crate::state::load_state;
 
-pub fn kind_fits(kind: u64) -> bool
-    ensures { λ r. ⌜ r ≡ kindFits kind ⌝ }
-{
-    if kind < 1 {
-        return false;
-    }
-    kind <= 6
-}
-
-pub fn count_fits(n: u64) -> bool
-    ensures { λ r. ⌜ r ≡ countFits n ⌝ }
-{
-    if n < 1 {
-        return false;
-    }
-    n <= 8
-}
-
-// The turns that a job of this kind has.
-pub fn span_of(kind: u64) -> u64
-    ensures { λ r. ⌜ r ≡ spanOf kind ⌝ }
-{
-    if kind == 1 {
-        return 3101;
-    }
-    if kind == 2 {
-        return 6204;
-    }
-    if kind == 3 {
-        return 30;
-    }
-    if kind == 4 {
-        return 30;
-    }
-    if kind == 5 {
-        return 150;
-    }
-    250
-}
-
 fn slot_fits(q: &[u8], slot: usize) -> bool
     requires { ⌜ (length (now q) ≡ 6144) × (slot < 8) ⌝ }
     ensures { λ r. ⌜ r ≡ slotFits (now (q .entry)) slot ⌝ }
 {
-    if !kind_fits(buf::get_u64(q, 128 + 16 * slot)) {
+    if !schedule::kind_fits(buf::get_u64(q, 128 + 16 * slot)) {
         return false;
     }
-    count_fits(buf::get_u64(q, 136 + 16 * slot))
+    schedule::count_fits(buf::get_u64(q, 136 + 16 * slot))
 }
 
 // The slots of so many jobs from this ticket on.
@@ -83,7 +42,7 @@ fn running_fits(q: &[u8]) -> bool
         return false;
     }
     let turns = buf::get_u64(q, 16);
-    if span_of(first_kind(q)) <= turns {
+    if schedule::span_of(first_kind(q)) <= turns {
         return false;
     }
     stepping::fits(load_state(q))

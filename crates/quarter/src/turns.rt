@@ -4,17 +4,14 @@ ghost use Prim.Native.Nat.{_+_, _≤_, _<_, _^_};
 ghost use mathlib.Core.Bool.{true};
 ghost use lib.ListN.{length};
 ghost use Rattle.buf.specs.Bytes.{u64At};
-ghost use Rattle.stepping.specs.States.{outcomeAt};
 ghost use Rattle.board_spec.specs.Layout.{heldAt, turnsAt};
 ghost use Rattle.board_spec.specs.Quarter.{firstJob, quarterFits, stateOf, steppedOf, keptQuarter, freedQuarter, turnQuarter};
 use crate::jobs::first_job;
 use crate::jobs::first_kind;
 use crate::jobs::first_ticket;
-use crate::ranges::span_of;
 use crate::state::load_state;
 use crate::state::store_state;
 use block::Job;
-use records::Outcome;
 use solver_state::State;
 
 // The state that the turn's evaluation goes on from. The job is the first one, passed on so that its block is read once.
@@ -58,19 +55,6 @@ fn free(q: &mut [u8])
     buf::put_u64(q, 16, 0);
 }
 
-// What the record states of a state.
-fn outcome(state: State) -> Outcome
-    ensures { λ r. ⌜ r ≡ outcomeAt state ⌝ }
-{
-    let ended = stepping::result(state);
-    let values = ended.values;
-    Outcome {
-        status: ended.status,
-        values,
-        evaluations: state.evaluations,
-    }
-}
-
 // Serves the queue once; 1 where its first job leaves and its record is written, else 0.
 pub fn turn_quarter(queue: u64, q: &mut [u8], buffer: &mut [u8]) -> u64
     requires { ⌜ (length (now q) ≡ 6144) × (64 ≤ length (now buffer)) × (quarterFits (now q) ≡ true) ⌝ }
@@ -81,9 +65,9 @@ pub fn turn_quarter(queue: u64, q: &mut [u8], buffer: &mut [u8]) -> u64
     }
     let kind = first_kind(q);
     let turns = buf::get_u64(q, 16);
-    if turns + 1 == span_of(kind) {
+    if turns + 1 == schedule::span_of(kind) {
         let ticket = first_ticket(q);
-        let outcome = outcome(stepped(q));
+        let outcome = stepping::outcome(stepped(q));
         records::write_record(buffer, ticket, kind, queue, outcome);
         free(q);
         return 1;

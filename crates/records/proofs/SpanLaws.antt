@@ -27,10 +27,11 @@ use Rattle.block.specs.Alike.{Alike}
 use Rattle.block.proofs.AlikeLaws.{view-alike}
 use Rattle.records.specs.Outcome.{Course, courseOf, refusedEnd, searchEnd, endOf, jobCourse, outcomeOf}
 use Rattle.records.specs.Record.{sealedBytes, sealedOf}
-use Rattle.records.specs.Span.{spanOf, CourseWithin, refused-within, search-within}
+use Rattle.schedule.specs.Spans.{spanOf}
+use Rattle.records.specs.Span.{CourseWithin, refused-within, search-within}
 
 -- `taskOf`, from the tests of the kind
-byKind : Conditions → (k₁ k₂ k₃ k₄ k₅ : Bool) → Task
+unfoldable pub byKind : Conditions → (k₁ k₂ k₃ k₄ k₅ : Bool) → Task
 byKind c k₁ k₂ k₃ k₄ k₅ =
     cond k₁ (DensityIteration (c .temperature) (c .pressure) (initialOf (c .choice) (c .start)))
     (cond k₂ (DensityIterationStable (c .temperature) (c .pressure))

@@ -1,6 +1,6 @@
 -- `calculate_spinodal` and `spinodal` of critical_point.rs, for one component. Definitions only.
 use Prim.Native.Nat.{ℕ, zero, suc}
-use mathlib.Core.Bool.{Bool, cond}
+use mathlib.Core.Bool.{cond}
 use lib.Ieee.{Float, lt}
 use Rattle.float.specs.Ops.{_⊖_, _⊗_, _⊘_, f0, f2}
 use Rattle.float.specs.Sign.{absOf}

@@ -1,5 +1,5 @@
 -- A job made step by step to its span: its states one after another, and the answer written. Assumes nothing.
-use mathlib.Core.Path.{_≡_, refl, sym, ap, _∙_}
+use mathlib.Core.Path.{_≡_, refl, ap, _∙_}
 use Prim.Native.Nat.{ℕ, suc, _+_, _≤_}
 use native.Mathlib.Omega.{arith}
 use mathlib.Core.Bool.{true}
@@ -16,7 +16,7 @@ use Rattle.records.specs.Answered.{answered}
 use Rattle.schedule.specs.Spans.{kindFits, countFits, spanOf}
 use Rattle.solver_state.specs.declared.types.State.{State}
 use Rattle.stepping.specs.Stepping.{startOf, stepOf}
-use Rattle.stepping.specs.States.{Request, stateAfter, outcomeAt}
+use Rattle.stepping.specs.States.{stateAfter, outcomeAt}
 use Rattle.stepping.proofs.Laws.{stepping}
 
 pub after-none : (job : Job) (s : State) → s ≡ startOf job → s ≡ stateAfter job 0

@@ -1,9 +1,8 @@
 -- Kinds 1 to 4: the floats of every state are values that eight bytes hold, from requests and evaluations whose floats are. Assumes nothing.
 use Prim.Native.Nat.{ℕ, zero, suc}
-use mathlib.Core.Bool.{Bool, true, false, cond, not, _&&_, _||_}
+use mathlib.Core.Bool.{not, _&&_, _||_}
 use lib.Dec.{T, eqb}
 use lib.Ieee.{Float, binary64, fits, isNan, lt, le}
-use lib.Ieee.Bits.{ofBits-fits}
 use lib.Ieee.Fits.{add-fits, sub-fits, mul-fits, div-fits, cond-fits}
 use Rattle.float.specs.Ops.{_⊖_, _⊗_, f0}
 use Rattle.float.specs.Sign.{finiteOf, negativeOf, absOf, minOf}
@@ -60,30 +59,20 @@ use Rattle.solver_state.specs.declared.types.Job.the-variants as Job
 use Rattle.solver_state.specs.State.{beginOf, startOf, densityStep, stableStep, spinodalStep, branchStep, stepOf}
 use Rattle.stepping.specs.Storable.{ValuesStorable, FloatsStorable}
 use Rattle.stepping.proofs.Yields.{YieldsFit}
-
-abbrev Fit : Float → Type 0
-Fit x = T (fits binary64 x)
+use Rattle.stepping.proofs.FloatLaws.{Fit, zero-fits, cond-keeps}
 
 -- what a density search works with fits
 pub record ConditionsFit (c : Conditions) : Type 0 where
-  pub maxdensity : T (fits binary64 (c .maxdensity))
-  pub temperature : T (fits binary64 (c .temperature))
-  pub pressure : T (fits binary64 (c .pressure))
-  pub start : T (fits binary64 (c .start))
+  pub maxdensity : Fit (c .maxdensity)
+  pub temperature : Fit (c .temperature)
+  pub pressure : Fit (c .pressure)
+  pub start : Fit (c .start)
 
 -- ---- floats
-
-zero-fits : Fit f0
-zero-fits = ofBits-fits binary64 0
 
 pub min-fits : (x y : Float) → Fit x → Fit y → Fit (minOf x y)
 unfolding minOf
 min-fits x y h k = cond-fits binary64 (isNan x || lt y x) y x k h
-
--- by a test
-cond-keeps : {S : Type 0} (P : S → Type 0) (b : Bool) (x y : S) → P x → P y → P (cond b x y)
-cond-keeps P true x y h k = h
-cond-keeps P false x y h k = k
 
 -- ---- answers and phases
 

@@ -33,81 +33,82 @@ use Rattle.stepping.specs.Storable.{FloatsStorable}
 use Rattle.stepping.proofs.Yields.{YieldsFit}
 use Rattle.stepping.proofs.YieldFloats.{yields-fit}
 use Rattle.stepping.proofs.DensityFloats.{ConditionsFit, conditions-fit, density-begin, density-steps, stable-begin, stable-steps, spinodal-begin, spinodal-steps, branch-begin, branch-steps}
-use Rattle.stepping.proofs.CriticalFloats.{Held, StartFits, kept, f0-held, critical-begin, critical-steps, spinodals-begin, spinodals-steps}
+use Rattle.stepping.proofs.FloatLaws.{Fit, zero-fits, cond-keeps}
+use Rattle.stepping.proofs.CriticalFloats.{StartFits, critical-begin, critical-steps, spinodals-begin, spinodals-steps}
 
 -- ---- a task's floats are read of the block, or +0
 abbrev pub InitialFits : DensityInitialization → Type 0
 InitialFits Vapor = Unit {0}
 InitialFits Liquid = Unit {0}
-InitialFits (InitialDensity ρ) = Held ρ
+InitialFits (InitialDensity ρ) = Fit ρ
 
 abbrev pub TaskFits : Task → Type 0
 TaskFits (Task.Refused number) = Unit {0}
-TaskFits (Task.DensityIteration t p initial) = Held t × Held p × InitialFits initial
-TaskFits (Task.DensityIterationStable t p) = Held t × Held p
-TaskFits (Task.PressureSpinodal t start) = Held t × Held start
-TaskFits (Task.PressureSpinodalBranch t branch) = Held t
+TaskFits (Task.DensityIteration t p initial) = Fit t × Fit p × InitialFits initial
+TaskFits (Task.DensityIterationStable t p) = Fit t × Fit p
+TaskFits (Task.PressureSpinodal t start) = Fit t × Fit start
+TaskFits (Task.PressureSpinodalBranch t branch) = Fit t
 TaskFits (Task.CriticalPoint t density) = StartFits t × StartFits density
-TaskFits (Task.Spinodal t) = Held t
+TaskFits (Task.Spinodal t) = Fit t
 
 -- the conditions of a request as they are read
 record Given (c : Conditions) : Type 0 where
-  temperature : Held (c .temperature)
-  pressure : Held (c .pressure)
-  start : Held (c .start)
+  temperature : Fit (c .temperature)
+  pressure : Fit (c .pressure)
+  start : Fit (c .start)
 
 conditions-read : (kind : ℕ) (s : List ℕ) (at : ℕ) → Given (conditionsOf kind s at)
 unfolding conditionsOf pressureOf Read.startOf
 conditions-read kind s at = record {
   temperature = f64-fits s (at + 8);
-  pressure = kept Held (usesPressure kind) (f64-fits s (at + 16)) f0-held;
-  start = kept Held (usesStart kind (choiceOf kind s at)) (f64-fits s (at + 24)) f0-held;
+  pressure = cond-keeps Fit (usesPressure kind) _ _ (f64-fits s (at + 16)) zero-fits;
+  start = cond-keeps Fit (usesStart kind (choiceOf kind s at)) _ _ (f64-fits s (at + 24)) zero-fits;
 }
 
-initial-fits : (choice : ℕ) (ρ : Float) → Held ρ → InitialFits (initialOf choice ρ)
+initial-fits : (choice : ℕ) (ρ : Float) → Fit ρ → InitialFits (initialOf choice ρ)
 unfolding initialOf
-initial-fits choice ρ h = kept InitialFits (eqb choice 0) tt (kept InitialFits (eqb choice 1) tt h)
+initial-fits choice ρ h = cond-keeps InitialFits (eqb choice 0) _ _ tt (cond-keeps InitialFits (eqb choice 1) _ _ tt h)
 
-given-fits : (x : Float) → Held x → StartFits (givenOf x)
+given-fits : (x : Float) → Fit x → StartFits (givenOf x)
 unfolding givenOf
-given-fits x h = kept StartFits (plusZero x) tt h
+given-fits x h = cond-keeps StartFits (plusZero x) _ _ tt h
 
 task-fits : (kind : ℕ) (c : Conditions) → Given c → TaskFits (taskOf kind c)
 unfolding taskOf
 task-fits kind c g =
-    kept TaskFits (eqb kind 1) (g .temperature, g .pressure, initial-fits (c .choice) (c .start) (g .start))
-    (kept TaskFits (eqb kind 2) (g .temperature, g .pressure)
-    (kept TaskFits (eqb kind 3) (g .temperature, g .start)
-    (kept TaskFits (eqb kind 4) (g .temperature)
-    (kept TaskFits (eqb kind 5) (given-fits (c .temperature) (g .temperature), given-fits (c .start) (g .start)) (g .temperature)))))
+    cond-keeps TaskFits (eqb kind 1) _ _ (g .temperature, g .pressure, initial-fits (c .choice) (c .start) (g .start))
+    (cond-keeps TaskFits (eqb kind 2) _ _ (g .temperature, g .pressure)
+    (cond-keeps TaskFits (eqb kind 3) _ _ (g .temperature, g .start)
+    (cond-keeps TaskFits (eqb kind 4) _ _ (g .temperature)
+    (cond-keeps TaskFits (eqb kind 5) _ _ (given-fits (c .temperature) (g .temperature), given-fits (c .start) (g .start)) (g .temperature)))))
 
 abbrev JobFits : Job → Type 0
 JobFits job = TaskFits (job .task)
 
 ready-fits : (task : Task) (blend : Blend) → TaskFits task → JobFits (readyOf task blend)
 unfolding readyOf refused
-ready-fits task blend h = kept JobFits (positive (maxDensity blend)) h tt
+ready-fits task blend h = cond-keeps JobFits (positive (maxDensity blend)) _ _ h tt
 
 checked-fits : (kind n : ℕ) (d : Numbers) → Given (d .conditions) → JobFits (checked kind n d)
 unfolding checked refused
 checked-fits kind n d g =
-    kept JobFits (componentsFit n (d .coefficients))
-    (kept JobFits (interactionsFit n (d .interactions))
-    (kept JobFits (fractionsFit n (d .fractions))
-    (kept JobFits (conditionsFit kind (d .conditions))
-    (kept JobFits (choiceFits kind n (d .conditions .choice)) (ready-fits _ _ (task-fits kind (d .conditions) g)) tt) tt) tt) tt) tt
+    cond-keeps JobFits (componentsFit n (d .coefficients)) _ _
+    (cond-keeps JobFits (interactionsFit n (d .interactions)) _ _
+    (cond-keeps JobFits (fractionsFit n (d .fractions)) _ _
+    (cond-keeps JobFits (conditionsFit kind (d .conditions)) _ _
+    (cond-keeps JobFits (choiceFits kind n (d .conditions .choice)) _ _ (ready-fits _ _ (task-fits kind (d .conditions) g)) tt) tt) tt) tt) tt
 
 -- a request is refused, or the floats of its task fit
 pub view-fits : (kind n : ℕ) (block : List ℕ) → TaskFits (view kind n block .task)
 unfolding view refused numbersOf
 view-fits kind n block =
-    kept JobFits (leb 1 kind && leb kind 6)
-    (kept JobFits (leb 1 n && leb n 8)
-    (kept JobFits (eqb (length block) 640)
-    (kept JobFits (pairsFit n block) (checked-fits kind n (numbersOf kind n block) (conditions-read kind block (offsetOf block conditions))) tt) tt) tt) tt
+    cond-keeps JobFits (leb 1 kind && leb kind 6) _ _
+    (cond-keeps JobFits (leb 1 n && leb n 8) _ _
+    (cond-keeps JobFits (eqb (length block) 640) _ _
+    (cond-keeps JobFits (pairsFit n block) _ _ (checked-fits kind n (numbersOf kind n block) (conditions-read kind block (offsetOf block conditions))) tt) tt) tt) tt
 
 -- and so does the maximum density of any blend
-pub max-density-fits : (blend : Blend) → Held (maxDensity blend)
+pub max-density-fits : (blend : Blend) → Fit (maxDensity blend)
 unfolding maxDensity
 max-density-fits blend = div-fits binary64 _ _
 
@@ -121,8 +122,8 @@ recounted job ev step s k =
     let h = step (uncounted s) (record { values = k .values; latest = k .latest }) in
     record { values = h .values; latest = h .latest }
 
-module _ (maxdensity : Float) (m : Held maxdensity) where
-  start-density : (t p : Float) (initial : DensityInitialization) → InitialFits initial → Held (Density.startOf maxdensity t p initial)
+module _ (maxdensity : Float) (m : Fit maxdensity) where
+  start-density : (t p : Float) (initial : DensityInitialization) → InitialFits initial → Fit (Density.startOf maxdensity t p initial)
   unfolding Density.startOf
   start-density t p Vapor h = div-fits binary64 p t
   start-density t p Liquid h = m
@@ -133,7 +134,7 @@ module _ (maxdensity : Float) (m : Held maxdensity) where
 
   begins : (task : Task) → TaskFits task → FloatsStorable (startBy (workOf maxdensity task))
   unfolding workOf startBy refusedState
-  begins (Task.Refused number) h = record { values = record { first = f0-held; second = f0-held; third = f0-held }; latest = f0-held }
+  begins (Task.Refused number) h = record { values = record { first = zero-fits; second = zero-fits; third = zero-fits }; latest = zero-fits }
   begins (Task.DensityIteration t p initial) h = density-begin _ (density-conditions t p initial h)
   begins (Task.DensityIterationStable t p) (ht, hp) = stable-begin maxdensity t p m ht hp
   begins (Task.PressureSpinodal t start) (ht, hs) = spinodal-begin maxdensity t start m ht hs

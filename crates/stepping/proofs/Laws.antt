@@ -1,6 +1,6 @@
 -- Every job made one evaluation at a time: its states can be stored, are in range, show what the definition shows, and end as it ends. Assumes nothing.
 use mathlib.Core.Path.{_≡_, refl, sym, ap, _∙_, subst}
-use Prim.Native.Nat.{ℕ, zero, suc, _^_, _≤_, _<_}
+use Prim.Native.Nat.{ℕ, zero, suc, _^_, _<_}
 use native.Mathlib.Omega.{arith}
 use native.Mathlib.Nat.{le-refl}
 use mathlib.Core.Bool.{Bool, true, false, not, _&&_, _||_}
@@ -13,25 +13,21 @@ use Rattle.float.specs.Sign.{finiteOf}
 use Rattle.eos.specs.Cubic.{maxDensity}
 use Rattle.solver.specs.declared.types.Answer.{Answer}
 use Rattle.solver.specs.declared.types.Counters.{Counters}
-use Rattle.solver.specs.declared.types.Numbers.{Numbers}
 use Rattle.solver.specs.Answer.{statusOf, valuesOf}
-use Rattle.solver.specs.Search.{Evaluator, Search, done, Going, run, after, fresh, settle, Within}
+use Rattle.solver.specs.Search.{Evaluator, Search, done, Going, run}
 use Rattle.solver.specs.Evaluated.{evaluated}
 use Rattle.solver.specs.Stored.{endedNumbers, statusFits, inRanges}
-use Rattle.solver.proofs.Ranges.{Below, below}
+use Rattle.solver.proofs.Ranges.{below}
 use Rattle.solver.proofs.Steps.{finishes}
 use Rattle.solver_density.specs.Density.{densityIteration}
-use Rattle.solver_state.specs.declared.types.Job as Steps
 use Rattle.solver_state.specs.declared.types.State.{State}
 use Rattle.solver_state.specs.State.{searchOf, leftOf, going}
 use Rattle.block.specs.declared.types.Task.{Task}
 use Rattle.block.specs.declared.types.Task.the-variants as Task
 use Rattle.block.specs.View.{view}
-use Rattle.records.specs.declared.types.Outcome.{Outcome}
 use Rattle.records.specs.Outcome.{Course, refusedBy, searches, courseOf, refusedEnd, searchEnd, endOf, outcomeOf}
 use Rattle.records.specs.Record.{sealedBytes, sealedOf}
-use Rattle.records.specs.Span.{CourseWithin, refused-within, search-within}
-use Rattle.records.specs.Span as Records
+use Rattle.records.specs.Span.{CourseWithin, search-within}
 use Rattle.records.proofs.SpanLaws.{job-within}
 use Rattle.schedule.specs.Spans.{spanOf}
 use Rattle.stepping.specs.declared.types.Work.{Work}
@@ -188,7 +184,7 @@ unfolding sealedOf outcomeOf
 finished kind n block r =
     let job = view kind n block in
     let c = course-work (maxDensity (job .blend)) (job .task) in
-    let m : CourseWithin (spanOf kind) (courseBy (workIn job)) = subst (CourseWithin (spanOf kind)) c (unfold spanOf Records.spanOf in (job-within kind n block)) in
+    let m : CourseWithin (spanOf kind) (courseBy (workIn job)) = subst (CourseWithin (spanOf kind)) c (job-within kind n block) in
     ap sealedBytes
     (ap outcomeAt (job-states job (spanOf kind))
     ∙ states-end (evaluated (job .blend)) (workIn job) (spanOf kind) m

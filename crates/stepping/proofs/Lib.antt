@@ -1,3 +1,4 @@
+pub mod FloatLaws
 pub mod Yields
 pub mod YieldFloats
 pub mod DensityFloats

@@ -37,7 +37,7 @@ use Rattle.block.specs.declared.types.Job as Block
 use Rattle.stepping.specs.declared.types.Work.{Work}
 use Rattle.stepping.specs.declared.types.Work.the-variants as Work
 use Rattle.stepping.specs.Stepping as Stepping
-use Rattle.stepping.specs.Stepping.{workOf, refusedState, startBy, uncounted, counted, stepBy}
+use Rattle.stepping.specs.Stepping.{workOf, refusedState, startBy, uncounted, stepBy}
 use Rattle.stepping.specs.States.{stateAfter}
 use Rattle.stepping.proofs.Ends.{again, begin-again, step-again}
 use Rattle.stepping.proofs.Sights.{after-last, after-most}

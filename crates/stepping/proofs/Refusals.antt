@@ -1,7 +1,7 @@
 -- A request that submit accepts is refused by its data only, 11 to 16. Assumes nothing.
 use mathlib.Core.Path.{_≡_, refl}
 use Prim.Native.Nat.{ℕ}
-use mathlib.Core.Bool.{Bool, true, false, cond, _&&_}
+use mathlib.Core.Bool.{Bool, true, false, _&&_}
 use mathlib.Core.List.{List}
 use lib.ListN.{length}
 use lib.Dec.{leb, eqb}
@@ -15,7 +15,8 @@ use Rattle.block.specs.Pairs.{pairsFit}
 use Rattle.block.specs.Numbers.{numbersOf}
 use Rattle.block.specs.Blend.{blendOf}
 use Rattle.block.specs.Checks.{positive, componentsFit, interactionsFit, fractionsFit, conditionsFit, choiceFits}
-use Rattle.block.specs.View.{initialOf, branchOf, givenOf, taskOf, searched, refused, check, readyOf, checked, view}
+use Rattle.block.specs.View.{taskOf, searched, refused, check, readyOf, checked, view}
+use Rattle.records.proofs.SpanLaws.{byKind}
 use Rattle.stepping.specs.States.{Request}
 
 -- a search, or a refusal of the supplier's data
@@ -27,15 +28,6 @@ byData (PressureSpinodal t start) = true
 byData (PressureSpinodalBranch t branch) = true
 byData (CriticalPoint t density) = true
 byData (Spinodal t) = true
-
--- `taskOf`, from the tests of the kind
-byKind : Conditions → (k₁ k₂ k₃ k₄ k₅ : Bool) → Task
-byKind c k₁ k₂ k₃ k₄ k₅ =
-    cond k₁ (DensityIteration (c .temperature) (c .pressure) (initialOf (c .choice) (c .start)))
-    (cond k₂ (DensityIterationStable (c .temperature) (c .pressure))
-    (cond k₃ (PressureSpinodal (c .temperature) (c .start))
-    (cond k₄ (PressureSpinodalBranch (c .temperature) (branchOf (c .choice)))
-    (cond k₅ (CriticalPoint (givenOf (c .temperature)) (givenOf (c .start))) (Spinodal (c .temperature))))))
 
 task-searches : (kind : ℕ) (c : Conditions) → byData (taskOf kind c) ≡ true
 unfolding taskOf byKind byData

@@ -1,13 +1,11 @@
 -- A job of a request block, one evaluation at a time: its first state, its step, the range of a stored state, and its end. Definitions only.
 use Prim.Native.Nat.{ℕ, _+_, _%_, _^_}
 use mathlib.Core.Bool.{Bool, cond, _&&_, _||_}
-use lib.Dec.{leb, ltb, eqb}
+use lib.Dec.{leb, eqb}
 use lib.Ieee.{Float}
 use Rattle.float.specs.Ops.{f0}
 use Rattle.eos.specs.Cubic.{maxDensity}
-use Rattle.solver.specs.declared.types.Values.{Values}
 use Rattle.solver.specs.declared.types.Counters.{Counters}
-use Rattle.solver.specs.declared.types.Numbers.{Numbers}
 use Rattle.solver.specs.Search.{Evaluator}
 use Rattle.solver.specs.Evaluated.{evaluated}
 use Rattle.solver.specs.Stored.{inRanges}

@@ -1,6 +1,5 @@
 // A whole job answered by steps: its start, then as many steps as its kind's span. The same bytes as `records::answer`.
 ghost use mathlib.Core.Path.{_≡_};
-ghost use Prim.Native.Nat.{_≤_};
 ghost use Rattle.records.specs.Answered.{answered};
 ghost use Rattle.stepping.specs.States.{stateAfter, outcomeAt};
 use crate::jobs::result;

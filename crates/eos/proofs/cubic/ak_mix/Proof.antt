@@ -1,5 +1,4 @@
 -- `eos::cubic::ak_mix` meets its contract. Assumes nothing.
-use mathlib.Core.Path.{refl}
 use Prim.Native.Nat.{_+_, _-_, _*_}
 use native.Mathlib.Omega.{arith}
 use native.Mathlib.Nat.{sub-zero}

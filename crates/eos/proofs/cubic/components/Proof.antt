@@ -1,5 +1,5 @@
 -- `eos::cubic::components` meets its contract. Assumes nothing.
-use mathlib.Core.Path.{_≡_, refl}
+use mathlib.Core.Path.{_≡_}
 use Prim.Native.Nat.{ℕ, _≤_, _<_, min}
 use mathlib.Core.Bool.{cond}
 use lib.Dec.{eqb}
@@ -7,7 +7,6 @@ use native.Mathlib.Omega.{arith}
 use native.Mathlib.Nat.{le-of-lt, min-eq-left, min-eq-right}
 use borrow.Author.Tests.{eq-eqb, ne-eqb}
 use Rattle.eos.specs.Cubic.{componentsOf}
-use borrow.Author.Needs.{needs}
 use Rattle.eos.proofs.cubic.components.Statement.{statement}
 use Rattle.eos.proofs.cubic.components.Tie as tie
 

@@ -1,5 +1,5 @@
 -- `eos::cubic::compute_max_density` meets its contract. Assumes nothing.
-use mathlib.Core.Path.{refl, ap, _∙_}
+use mathlib.Core.Path.{ap, _∙_}
 use Prim.Native.Nat.{ℕ}
 use lib.Ieee.{Float}
 use Rattle.float.specs.Ops.{_⊗_, _⊘_}

@@ -1,5 +1,4 @@
 -- `eos::cubic::element` meets its contract. Assumes nothing.
-use mathlib.Core.Path.{refl}
 use lib.Ieee.{div, ofBits}
 use borrow.Author.Tests.{lt-ltb, le-ltb}
 use Rattle.eos.specs.Cubic.{elementOf}

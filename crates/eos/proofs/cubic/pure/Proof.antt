@@ -1,5 +1,4 @@
 -- `eos::cubic::pure` meets its contract. Assumes nothing.
-use mathlib.Core.Path.{refl}
 use Rattle.eos.specs.Cubic.{pureOf}
 use borrow.Author.Needs.{needs}
 use Rattle.eos.proofs.cubic.pure.Statement.{statement}

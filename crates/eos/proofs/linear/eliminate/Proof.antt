@@ -1,5 +1,4 @@
 -- `eos::linear::eliminate` meets its contract. Assumes nothing.
-use mathlib.Core.Path.{refl}
 use Rattle.eos.specs.Linear.{eliminated}
 use Rattle.eos.proofs.linear.eliminate.Statement.{statement}
 use Rattle.eos.proofs.linear.eliminate.Tie as tie

@@ -1,5 +1,4 @@
 -- `jet::arith::coefficient` meets its contract. Assumes nothing.
-use mathlib.Core.Path.{refl}
 use lib.Ieee.{div, ofBits}
 use borrow.Author.Needs.{needs}
 use borrow.Author.Tests.{lt-ltb, le-ltb}

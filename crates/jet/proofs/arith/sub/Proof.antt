@@ -3,7 +3,7 @@ use mathlib.Core.Path.{_≡_, refl}
 use Prim.Native.Nat.{_-_, _≤_}
 use native.Mathlib.Omega.{arith}
 use Rattle.jet.specs.Positions.{positions}
-use Rattle.jet.specs.Coefficients.{at, build, cut, differenceAt, differenceOf}
+use Rattle.jet.specs.Coefficients.{build, cut, differenceAt, differenceOf}
 use Rattle.jet.proofs.Build.{fill-start, fill-turn, fill-end}
 use borrow.Author.Needs.{needs}
 use Rattle.jet.proofs.arith.sub.Statement.{statement}

@@ -4,7 +4,7 @@ use Prim.Native.Nat.{_-_, _<_}
 use native.Mathlib.Omega.{arith}
 use mathlib.Core.List.{foldl}
 use lib.ListN.{length, drop}
-use Rattle.jet.specs.Positions.{pairsOf, before}
+use Rattle.jet.specs.Positions.{before}
 use Rattle.jet.specs.Coefficients.{less}
 use Rattle.jet.proofs.Fold.{subtracting, fold-turn, fold-end, length-before, before-at, pairs-some}
 use borrow.Author.Needs.{needs}
