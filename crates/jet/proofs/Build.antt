@@ -71,7 +71,7 @@ pub cut-all : (a : List Float) → length a ≡ positions → cut positions a �
 unfolding cut
 cut-all a h = append-nil (take positions a) ∙ take-all positions a (rw h (omega arith))
 
-padded : (f : List Float → ℕ → Float) (m : ℕ) → m ≤ positions → cut m (build f positions) ≡ build f m ++ replicate (positions - m) f0
+pub padded : (f : List Float → ℕ → Float) (m : ℕ) → m ≤ positions → cut m (build f positions) ≡ build f m ++ replicate (positions - m) f0
 unfolding cut
 padded f m h = ap (λ (c : List Float). c ++ replicate (positions - m) f0) (take-build f positions m h)
 

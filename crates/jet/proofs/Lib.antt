@@ -9,3 +9,4 @@ pub mod Rows
 pub mod ByE0
 pub mod Depends
 pub mod Prefix
+pub mod Four

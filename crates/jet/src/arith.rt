@@ -6,6 +6,8 @@ ghost use mathlib.Core.List.{[]};
 ghost use Rattle.jet.specs.Positions.{positions};
 ghost use Rattle.jet.specs.Coefficients.{coefficientOf, numberOf, markedOf, sumOf, differenceOf, negationOf, productOf, quotientOf, recipOf, squareOf, factorialOf, derivativeAt, derivativeOf, cut};
 use crate::Jet;
+use crate::along::div_4;
+use crate::along::mul_4;
 use crate::terms::minus;
 use crate::terms::plus;
 
@@ -86,6 +88,9 @@ pub fn at_most(n: usize) -> usize
 pub fn mul_to(n: usize, a: Jet, b: Jet) -> Jet
     ensures { λ r. ⌜ r .c ≡ cut n (productOf (a .c) (b .c)) ⌝ }
 {
+    if n == 4 {
+        return mul_4(a, b);
+    }
     let end = at_most(n);
     let x = a.c;
     let y = b.c;
@@ -107,6 +112,9 @@ pub fn mul(a: Jet, b: Jet) -> Jet
 pub fn div_to(n: usize, a: Jet, b: Jet) -> Jet
     ensures { λ r. ⌜ r .c ≡ cut n (quotientOf (a .c) (b .c)) ⌝ }
 {
+    if n == 4 {
+        return div_4(a, b);
+    }
     let end = at_most(n);
     let x = a.c;
     let y = b.c;

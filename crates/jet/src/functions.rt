@@ -2,6 +2,8 @@
 ghost use mathlib.Core.Path.{_≡_};
 ghost use Rattle.jet.specs.Coefficients.{rootOf, logarithmOf, cut};
 use crate::Jet;
+use crate::along::ln_4;
+use crate::along::sqrt_4;
 use crate::arith::at_most;
 use crate::terms::minus;
 use crate::terms::weight;
@@ -9,6 +11,9 @@ use crate::terms::weight;
 pub fn sqrt_to(n: usize, a: Jet) -> Jet
     ensures { λ r. ⌜ r .c ≡ cut n (rootOf (a .c)) ⌝ }
 {
+    if n == 4 {
+        return sqrt_4(a);
+    }
     let end = at_most(n);
     let x = a.c;
     let mut r = [0.0; 16];
@@ -35,6 +40,9 @@ pub fn sqrt(a: Jet) -> Jet
 pub fn ln_to(n: usize, a: Jet) -> Jet
     ensures { λ r. ⌜ r .c ≡ cut n (logarithmOf (a .c)) ⌝ }
 {
+    if n == 4 {
+        return ln_4(a);
+    }
     let end = at_most(n);
     let x = a.c;
     let mut l = [0.0; 16];

@@ -1,5 +1,6 @@
 // Jets: polynomials in the marks e0 (degree up to 3), e1 and e2 (up to 1), with document 01's rules for the
 // coefficients of a sum, product, quotient, root and logarithm. specs/Coefficients.antt has the rules.
+mod along;
 mod arith;
 mod functions;
 mod pairs;

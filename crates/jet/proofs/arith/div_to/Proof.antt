@@ -21,6 +21,12 @@ Inv-loop n end x y q₀ m₀ q m = (m ≤ end) × (end ≤ positions) × (q ≡ 
 abbrev μ-loop : tie.MeasureT-loop
 μ-loop n end x y q₀ m₀ q m = end - m
 
+div-4-requires : tie.Need-div-4-requires Inv-loop μ-loop
+div-4-requires c κs = search needs
+
+returns : tie.Need-returns Inv-loop μ-loop
+returns c = rw (c .before .if1 .taken) (c .div-4 .ensures)
+
 at-most-requires : tie.Need-at-most-requires Inv-loop μ-loop
 at-most-requires c κs = search needs
 
@@ -55,14 +61,14 @@ loop-again : tie.Need-loop-again Inv-loop μ-loop
 unfolding quotientAt
 loop-again c =
     let l = c .before .before .before .before in
-    let x = l .before .before .before .before .args .a .c in
-    let y = l .before .before .before .before .args .b .c in
+    let x = l .before .before .before .before .before .args .a .c in
+    let y = l .before .before .before .before .before .args .b .c in
     (omega arith, l .loop .inv .1, fill-turn (quotientAt x y) (quotient-local x y) (l .loop .m) _ (l .loop .q) (omega arith) (l .loop .inv .2) (ap (λ (v : Float). v ⊘ at y 0) (c .minus .ensures)))
 
-returns : tie.Need-returns Inv-loop μ-loop
+returns-2 : tie.Need-returns-2 Inv-loop μ-loop
 unfolding quotientOf
-returns c =
-    let s = c .before .before .before .before .before in
+returns-2 c =
+    let s = c .before .before .before .before .before .before in
     fill-end-to (quotientAt (s .args .a .c) (s .args .b .c)) (s .args .n) (c .before .loop .m) _ (omega (arith, c .before .before .before .before .at-most .ensures)) (c .before .loop .inv .2)
 
 pub div-to-spec : {M : Type 1} → statement M
@@ -71,6 +77,8 @@ div-to-spec =
     (tie.spec
     Inv-loop
     μ-loop
+    div-4-requires
+    returns
     at-most-requires
     loop-holds
     mul-minus
@@ -82,4 +90,4 @@ div-to-spec =
     add-m
     loop-less
     loop-again
-    returns)
+    returns-2)

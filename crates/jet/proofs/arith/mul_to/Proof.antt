@@ -17,6 +17,12 @@ Inv-loop n end x y c₀ m₀ c m = (m ≤ end) × (end ≤ positions) × (c ≡ 
 abbrev μ-loop : tie.MeasureT-loop
 μ-loop n end x y c₀ m₀ c m = end - m
 
+mul-4-requires : tie.Need-mul-4-requires Inv-loop μ-loop
+mul-4-requires c κs = search needs
+
+returns : tie.Need-returns Inv-loop μ-loop
+returns c = rw (c .before .if1 .taken) (c .mul-4 .ensures)
+
 at-most-requires : tie.Need-at-most-requires Inv-loop μ-loop
 at-most-requires c κs = search needs
 
@@ -51,14 +57,14 @@ loop-again : tie.Need-loop-again Inv-loop μ-loop
 unfolding productAt
 loop-again c =
     let l = c .before .before .before .before in
-    let x = l .before .before .before .before .args .a .c in
-    let y = l .before .before .before .before .args .b .c in
+    let x = l .before .before .before .before .before .args .a .c in
+    let y = l .before .before .before .before .before .args .b .c in
     (omega arith, l .loop .inv .1, fill-turn (productAt x y) (λ m c d h. refl) (l .loop .m) _ (l .loop .c) (omega arith) (l .loop .inv .2) (c .plus .ensures ∙ product-row x y (l .loop .c) (l .loop .m)))
 
-returns : tie.Need-returns Inv-loop μ-loop
+returns-2 : tie.Need-returns-2 Inv-loop μ-loop
 unfolding productOf
-returns c =
-    let s = c .before .before .before .before .before in
+returns-2 c =
+    let s = c .before .before .before .before .before .before in
     fill-end-to (productAt (s .args .a .c) (s .args .b .c)) (s .args .n) (c .before .loop .m) _ (omega (arith, c .before .before .before .before .at-most .ensures)) (c .before .loop .inv .2)
 
 pub mul-to-spec : {M : Type 1} → statement M
@@ -67,6 +73,8 @@ mul-to-spec =
     (tie.spec
     Inv-loop
     μ-loop
+    mul-4-requires
+    returns
     at-most-requires
     loop-holds
     array-read-plus
@@ -78,4 +86,4 @@ mul-to-spec =
     add-m
     loop-less
     loop-again
-    returns)
+    returns-2)

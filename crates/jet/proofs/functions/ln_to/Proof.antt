@@ -30,12 +30,18 @@ Inv-loop n end x l₀ wl₀ m₀ l wl m = Inv x end l wl m
 abbrev μ-loop : tie.MeasureT-loop
 μ-loop n end x l₀ wl₀ m₀ l wl m = end - m
 
+ln-4-requires : tie.Need-ln-4-requires Inv-loop μ-loop
+ln-4-requires c κs = search needs
+
+returns : tie.Need-returns Inv-loop μ-loop
+returns c = rw (c .before .if1 .taken) (c .ln-4 .ensures)
+
 at-most-requires : tie.Need-at-most-requires Inv-loop μ-loop
 at-most-requires c κs = search needs
 
-returns : tie.Need-returns Inv-loop μ-loop
+returns-2 : tie.Need-returns-2 Inv-loop μ-loop
 unfolding logarithmOf
-returns c = fill-end-to (logarithmAt (c .before .before .before .args .a .c)) (c .before .before .before .args .n) 0 _ (omega (arith, c .before .before .at-most .ensures)) (fill-start _)
+returns-2 c = fill-end-to (logarithmAt (c .before .before .before .before .args .a .c)) (c .before .before .before .before .args .n) 0 _ (omega (arith, c .before .before .at-most .ensures)) (fill-start _)
 
 array-read-ln : tie.Need-array-read-ln Inv-loop μ-loop
 array-read-ln c = search needs
@@ -49,7 +55,7 @@ array-write-l c = search needs
 loop-holds : tie.Need-loop-holds Inv-loop μ-loop
 unfolding logarithmAt
 loop-holds c =
-    let x = c .before .before .before .before .args .a .c in
+    let x = c .before .before .before .before .before .args .a .c in
     record {
       some = omega arith;
       under = omega arith;
@@ -98,7 +104,7 @@ loop-again c =
     let s = c .before .before .before .before .before in
     let l = s .loop in
     let i = l .inv in
-    let x = s .before .before .before .before .before .args .a .c in
+    let x = s .before .before .before .before .before .before .args .a .c in
     let weight = c .before .before .before .weight .ensures in
     let long : length (l .l) ≡ positions = ap length (i .filled) ∙ length-filled (logarithmAt x) (l .m) (omega arith) in
     record {
@@ -110,10 +116,10 @@ loop-again c =
       weighted = weighted-turn (l .l) (l .wl) (l .m) _ _ (omega arith) (omega arith) weight (i .weighted);
     }
 
-returns-2 : tie.Need-returns-2 Inv-loop μ-loop
+returns-3 : tie.Need-returns-3 Inv-loop μ-loop
 unfolding logarithmOf
-returns-2 c =
-    let s = c .before .before .before .before .before .before in
+returns-3 c =
+    let s = c .before .before .before .before .before .before .before in
     fill-end-to (logarithmAt (s .args .a .c)) (s .args .n) (c .before .loop .m) _ (omega (arith, c .before .before .before .before .before .at-most .ensures, c .before .loop .inv .under)) (c .before .loop .inv .filled)
 
 pub ln-to-spec : {M : Type 1} → statement M
@@ -122,8 +128,10 @@ ln-to-spec =
     (tie.spec
     Inv-loop
     μ-loop
-    at-most-requires
+    ln-4-requires
     returns
+    at-most-requires
+    returns-2
     array-read-ln
     ln-requires
     array-write-l
@@ -140,4 +148,4 @@ ln-to-spec =
     add-m
     loop-less
     loop-again
-    returns-2)
+    returns-3)

@@ -21,12 +21,18 @@ Inv-loop n end x r₀ d m₀ r m = (1 ≤ m) × (m ≤ end) × (end ≤ position
 abbrev μ-loop : tie.MeasureT-loop
 μ-loop n end x r₀ d m₀ r m = end - m
 
+sqrt-4-requires : tie.Need-sqrt-4-requires Inv-loop μ-loop
+sqrt-4-requires c κs = search needs
+
+returns : tie.Need-returns Inv-loop μ-loop
+returns c = rw (c .before .if1 .taken) (c .sqrt-4 .ensures)
+
 at-most-requires : tie.Need-at-most-requires Inv-loop μ-loop
 at-most-requires c κs = search needs
 
-returns : tie.Need-returns Inv-loop μ-loop
+returns-2 : tie.Need-returns-2 Inv-loop μ-loop
 unfolding rootOf
-returns c = fill-end-to (rootAt (c .before .before .before .args .a .c)) (c .before .before .before .args .n) 0 _ (omega (arith, c .before .before .at-most .ensures)) (fill-start _)
+returns-2 c = fill-end-to (rootAt (c .before .before .before .before .args .a .c)) (c .before .before .before .before .args .n) 0 _ (omega (arith, c .before .before .at-most .ensures)) (fill-start _)
 
 array-read-sqrt : tie.Need-array-read-sqrt Inv-loop μ-loop
 array-read-sqrt c = search needs
@@ -43,7 +49,7 @@ array-read-d c = search needs
 loop-holds : tie.Need-loop-holds Inv-loop μ-loop
 unfolding rootAt
 loop-holds c =
-    let x = c .before .before .before .before .args .a .c in
+    let x = c .before .before .before .before .before .args .a .c in
     (omega arith, omega arith, rw (c .before .before .before .at-most .ensures) (min-le-right _ _), fill-turn (rootAt x) (root-local x) 0 (c .sqrt .result) _ (omega arith) (fill-start _) (c .sqrt .ensures))
 
 mul-minus : tie.Need-mul-minus Inv-loop μ-loop
@@ -71,14 +77,14 @@ loop-again : tie.Need-loop-again Inv-loop μ-loop
 unfolding rootAt
 loop-again c =
     let l = c .before .before .before .before in
-    let x = l .before .before .before .before .before .args .a .c in
+    let x = l .before .before .before .before .before .before .args .a .c in
     let first : at (l .loop .r) 0 ≡ root (at x 0) = ap (λ (r : List Float). at r 0) (l .loop .inv .3) ∙ first-filled (rootAt x) (l .loop .m) (l .loop .inv .0) (omega arith) in
     (omega arith, omega arith, l .loop .inv .2, fill-turn (rootAt x) (root-local x) (l .loop .m) _ (l .loop .r) (omega arith) (l .loop .inv .3) (root-row x (l .loop .r) (l .loop .m) _ _ (l .loop .inv .0) (c .minus .ensures) (l .before .sqrt .ensures ∙ sym first)))
 
-returns-2 : tie.Need-returns-2 Inv-loop μ-loop
+returns-3 : tie.Need-returns-3 Inv-loop μ-loop
 unfolding rootOf
-returns-2 c =
-    let s = c .before .before .before .before .before .before in
+returns-3 c =
+    let s = c .before .before .before .before .before .before .before in
     fill-end-to (rootAt (s .args .a .c)) (s .args .n) (c .before .loop .m) _ (omega (arith, c .before .before .before .before .before .at-most .ensures)) (c .before .loop .inv .3)
 
 pub sqrt-to-spec : {M : Type 1} → statement M
@@ -87,8 +93,10 @@ sqrt-to-spec =
     (tie.spec
     Inv-loop
     μ-loop
-    at-most-requires
+    sqrt-4-requires
     returns
+    at-most-requires
+    returns-2
     array-read-sqrt
     sqrt-requires
     array-write-r
@@ -102,4 +110,4 @@ sqrt-to-spec =
     add-m
     loop-less
     loop-again
-    returns-2)
+    returns-3)
