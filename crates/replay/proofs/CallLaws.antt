@@ -34,11 +34,11 @@ unfolding lookJudged refusedDid
 look-none b queue accept = refl
 look-none b queue (refuse number) = refl
 
-submit-buffer : (b : Bytes) (queue kind n : ℕ) (block : Bytes) → [] ≡ submitBoard b queue kind n block .buffer
+pub submit-buffer : (b : Bytes) (queue kind n : ℕ) (block : Bytes) → [] ≡ submitBoard b queue kind n block .buffer
 unfolding submitBoard
 submit-buffer b queue kind n block = submit-none b queue kind n block _
 
-look-buffer : (b : Bytes) (queue : ℕ) → [] ≡ lookBoard b queue .buffer
+pub look-buffer : (b : Bytes) (queue : ℕ) → [] ≡ lookBoard b queue .buffer
 unfolding lookBoard
 look-buffer b queue = look-none b queue _
 
@@ -63,7 +63,7 @@ look-made b w w′ at queue t ea ew =
     record { board = sym (look-unchanged b queue .board); answers = written b w w′ at (Look queue) (answerOf t) [] ea (look-buffer b queue) ew }
 
 -- the start of a buffer of zeros
-zeros-lent : (n : ℕ) → n ≤ 256 → take n (zeros 256) ≡ zeros n
+pub zeros-lent : (n : ℕ) → n ≤ 256 → take n (zeros 256) ≡ zeros n
 zeros-lent n h = lent-part (zeros 256) 0 n n refl ∙ part-zeros 256 0 n (omega arith)
 
 pub length-lent : (n : ℕ) → n ≤ 256 → n ≡ length (take n (zeros 256))
@@ -82,15 +82,16 @@ pub buffer-fits : (size l : ℕ) (c : code-call.Call) → c ≡ code-call.the-va
 unfolding callFits
 buffer-fits size l c e f = leb-true l 256 (rw e at f)
 
-module _ (b w b′ w′ s : Bytes) (at : ℕ) (c : code-call.Call) where
-  pub made-submit : (queue kind n from l : ℕ) → c ≡ code-call.the-variants.Submit queue kind n from l → MadeCall b w at (Submit queue kind n (take (from + l - from) (drop from s))) b′ w′ → MadeCall b w at (callOf s c) b′ w′
+-- the call that the code's value stands for, a block as it is lent
+module _ (s : Bytes) (c : code-call.Call) where
+  pub submit-call : (queue kind n from l : ℕ) → c ≡ code-call.the-variants.Submit queue kind n from l → callOf s c ≡ Submit queue kind n (take (from + l - from) (drop from s))
   unfolding callOf
-  made-submit queue kind n from l e m = rw e (rw (lent-part s from (from + l - from) l (omega arith)) at m)
+  submit-call queue kind n from l e = rw e (ap (Submit queue kind n) (sym (lent-part s from (from + l - from) l (omega arith))))
 
-  pub made-turn : (l : ℕ) → c ≡ code-call.the-variants.Turn l → MadeCall b w at (Turn (zeros l)) b′ w′ → MadeCall b w at (callOf s c) b′ w′
+  pub turn-call : (l : ℕ) → c ≡ code-call.the-variants.Turn l → callOf s c ≡ Turn (zeros l)
   unfolding callOf
-  made-turn l e m = rw e m
+  turn-call l e = rw e
 
-  pub made-look : (queue : ℕ) → c ≡ code-call.the-variants.Look queue → MadeCall b w at (Look queue) b′ w′ → MadeCall b w at (callOf s c) b′ w′
+  pub look-call : (queue : ℕ) → c ≡ code-call.the-variants.Look queue → callOf s c ≡ Look queue
   unfolding callOf
-  made-look queue e m = rw e m
+  look-call queue e = rw e

@@ -2,5 +2,6 @@
 mod digits;
 mod line;
 
+pub use crate::digits::put_digits;
 pub use crate::line::put_line;
 pub use crate::line::put_number;

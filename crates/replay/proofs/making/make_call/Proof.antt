@@ -1,6 +1,6 @@
 -- `replay::making::make_call` meets its contract. Assumes nothing.
 use native.Mathlib.Omega.{arith}
-use Rattle.replay.proofs.CallLaws.{block-fits, buffer-fits, made-submit, made-turn, made-look}
+use Rattle.replay.proofs.CallLaws.{block-fits, buffer-fits, submit-call, turn-call, look-call}
 use borrow.Author.Needs.{needs}
 use Rattle.replay.proofs.making.make_call.Statement.{statement}
 use Rattle.replay.proofs.making.make_call.Tie as tie
@@ -42,7 +42,7 @@ same-length-2 : tie.Need-same-length-2
 same-length-2 c = search needs
 
 returns : tie.Need-returns
-returns c = made-submit _ _ _ _ _ _ _ _ _ _ _ _ (c .before .before .before .before .before .before .before .before .before .call .given .1) (c .before .before .before .before .make-submit .ensures)
+returns c = rw (submit-call _ _ _ _ _ _ _ (c .before .before .before .before .before .before .before .before .before .call .given .1)) (c .before .before .before .before .make-submit .ensures)
 
 same-length-3 : tie.Need-same-length-3
 same-length-3 c = search needs
@@ -51,7 +51,7 @@ same-length-4 : tie.Need-same-length-4
 same-length-4 c = search needs
 
 returns-2 : tie.Need-returns-2
-returns-2 c = made-turn _ _ _ _ _ _ _ _ (c .before .before .before .before .before .before .before .before .call2 .given .1) (c .before .before .before .before .make-turn .ensures)
+returns-2 c = rw (turn-call _ _ _ (c .before .before .before .before .before .before .before .before .call2 .given .1)) (c .before .before .before .before .make-turn .ensures)
 
 same-length-5 : tie.Need-same-length-5
 same-length-5 c = search needs
@@ -60,7 +60,7 @@ same-length-6 : tie.Need-same-length-6
 same-length-6 c = search needs
 
 returns-3 : tie.Need-returns-3
-returns-3 c = made-look _ _ _ _ _ _ _ _ (c .before .before .before .before .before .before .call3 .given .1) (c .before .before .make-look .ensures)
+returns-3 c = rw (look-call _ _ _ (c .before .before .before .before .before .before .call3 .given .1)) (c .before .before .make-look .ensures)
 
 pub make-call-spec : {M : Type 1} → statement M
 make-call-spec =
