@@ -1,6 +1,7 @@
 -- Demand 3: one theorem over two runs with the same public fields. Assumes nothing.
 use mathlib.Core.Path.{_≡_, refl, sym, ap, _∙_}
 use Prim.Native.Nat.{ℕ, _+_, _%_, _^_, _≤_}
+use mathlib.Core.Bool.{true}
 use mathlib.Core.List.{List, [], _∷_, _++_, map}
 use mathlib.Core.Option.{Option, none, some}
 use native.Mathlib.Omega.{arith}
@@ -11,6 +12,8 @@ use Rattle.buf.specs.Bytes.{part, splice, u64At}
 use Rattle.block.specs.Alike.{Alike}
 use Rattle.block.proofs.AlikeLaws.{view-alike}
 use Rattle.records.specs.Record.{publicBytes, sealedAt, sealedOf}
+use Rattle.records.specs.Demand2.{rustSealed, cleanRequest}
+use Rattle.records.proofs.Demand2.{demand-2}
 use Rattle.schedule.specs.Spans.{spanOf}
 use Rattle.schedule.specs.Schedule.{Held, Queue, Schedule, Call, Submit, Turn, Look, Event, refused, accepted, served, looked, Verdict, accept, refuse, verdict, put, entered, submitted, acts, judged, happens, events, afterAll, fresh}
 use Rattle.schedule.specs.History.{times, queuesServed, allAsAccepted, acceptedIn, handedIn, left, work, finished}
@@ -19,11 +22,11 @@ use Rattle.schedule.proofs.Rounds.{Round, round, four-once}
 use Rattle.schedule.proofs.Order.{order}
 use Rattle.schedule.proofs.OnTime as OnTime
 use Rattle.board_spec.specs.Layout.{turnAt}
-use Rattle.board_spec.specs.Board.{Refused, Ticket, Did, quarterOf, turnBoard}
+use Rattle.board_spec.specs.Board.{Refused, Ticket, Did, quarterOf, submitBoard, turnBoard}
 use Rattle.board_spec.specs.Run.{Bytes, Calls, zeroBoard, did, boardAfter, Reply, replyBy, bufferOf, recordOf, turnReply, sightReply, replyOf, fieldsOf, publicEvent}
 use Rattle.board_spec.specs.Rep.{Rep}
 use Rattle.board_spec.specs.Demand3.{Place, boardAt, didAt, eventAt, Release, sealedIn, Course, held, since, turnsSince, handedSince, eventThen, IsLast, endedJob, Orderly, SealedAlike, Demand3}
-use Rattle.board_spec.proofs.Sim.{Simulates, simulates, zero-rep, turn-others}
+use Rattle.board_spec.proofs.Sim.{Simulates, simulates, zero-rep, turn-others, submit-others}
 use Rattle.board_spec.proofs.Runs.{rep-after, run-scheduled, served-by, public-part, sealed-part, public-told, look-unchanged, refused-unchanged}
 
 -- ---- what an answer tells of the event
@@ -103,6 +106,9 @@ module _ (run : Calls) where
   unfolding sealedIn
   record-sealed x = ap (λ (w : Bytes). part w sealedAt 48) (record-is x) ∙ sealed-part (bufferOf (x .place .call)) (x .queue) (x .job) (room-at x)
 
+  record-rust : (x : Release run) → cleanRequest (x .job .kind) (x .job .n) (x .job .block) ≡ true → sealedIn x ≡ rustSealed (x .job .kind) (x .job .n) (x .job .block)
+  record-rust x h = record-sealed x ∙ demand-2 .answers (x .job .kind) (x .job .n) (x .job .block) h
+
   record-public : (x : Release run) → part (didAt (x .place) .buffer) 0 16 ≡ publicBytes (x .job .ticket) (x .job .kind) (x .queue)
   record-public x = ap (λ (w : Bytes). part w 0 16) (record-is x) ∙ public-part (bufferOf (x .place .call)) (x .queue) (x .job) (room-at x)
 
@@ -155,6 +161,16 @@ module _ (run : Calls) where
       ap (λ (d : Did). quarterOf (d .board) q) (turn-of (boardAfter zeroBoard (p .before)) (p .call) (bufferOf (p .call)) (s .is-turn))
       ∙ turn-others (afterAll length fresh (p .before)) (boardAfter zeroBoard (p .before)) (rep-at (p .before)) (bufferOf (p .call)) (s .verdict-is) q h (λ z. n (z ∙ sym (s .queue-is)))
 
+  submit-of : (b : Bytes) (c : Call Bytes) (queue kind n : ℕ) (block : Bytes) → c ≡ Submit queue kind n block → did b c ≡ submitBoard b queue kind n block
+  unfolding did
+  submit-of b c queue kind n block e = rw e
+
+  submits-others : (p : Place run) (queue kind n : ℕ) (block : Bytes) → p .call ≡ Submit queue kind n block → (q : ℕ) → q ≤ 3 → (q ≡ queue → ⊥) → quarterOf (didAt p .board) q ≡ quarterOf (boardAt p) q
+  unfolding boardAt didAt
+  submits-others p queue kind n block e q h ne =
+      ap (λ (d : Did). quarterOf (d .board) q) (submit-of (boardAfter zeroBoard (p .before)) (p .call) queue kind n block e)
+      ∙ submit-others (afterAll length fresh (p .before)) (boardAfter zeroBoard (p .before)) (rep-at (p .before)) queue kind n block q ne
+
   round-run : Round 0 (queuesServed (events length fresh run))
   unfolding fresh
   round-run = round length fresh run
@@ -182,6 +198,7 @@ module _ (run : Calls) where
         as-scheduled = run-scheduled fresh zeroBoard zero-rep run;
         public-alone = public-told run;
         record-sealed = record-sealed;
+        record-rust = record-rust;
         record-public = record-public;
         in-order = in-order;
         on-time = on-time;
@@ -189,6 +206,7 @@ module _ (run : Calls) where
         never-6 = never-6;
         serves-named = serves-named;
         others-kept = others-kept;
+        submit-others = submits-others;
         four-turns = four-turns;
         refused-same = refused-same;
         look-same = look-same;

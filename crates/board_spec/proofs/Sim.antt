@@ -206,12 +206,13 @@ module _ (σ : Schedule Bytes) (b : Bytes) (r : Rep σ b) where
   submit-judged queue kind n block accept e = submit-taken queue kind n block (submit-accepted queue kind n _ _ e)
   submit-judged queue kind n block (refuse number) e = unfold submitJudged in (refused-sim [] number)
 
+  submit-verdict : (queue kind n : ℕ) (block : Bytes)
+      → check (boardFits b) 6 (submitVerdict queue kind n (length block) (u64At (quarterOf b queue) heldAt)) ≡ submitVerdict queue kind n (length block) (length (σ .queues queue .jobs))
+  submit-verdict queue kind n block = six _ ∙ submit-same queue kind n (length block) _ _ (λ k. r .each queue k .held)
+
   submit-sim : (queue kind n : ℕ) (block : Bytes) → Simulates (submitBoard b queue kind n block) [] (happens length σ (Submit queue kind n block))
   unfolding submitBoard happens verdict
-  submit-sim queue kind n block =
-      let e : check (boardFits b) 6 (submitVerdict queue kind n (length block) (u64At (quarterOf b queue) heldAt)) ≡ submitVerdict queue kind n (length block) (length (σ .queues queue .jobs)) =
-      six _ ∙ submit-same queue kind n (length block) _ _ (λ k. r .each queue k .held) in
-      rw e (submit-judged queue kind n block _ refl)
+  submit-sim queue kind n block = rw (submit-verdict queue kind n block) (submit-judged queue kind n block _ refl)
 
   turn-taken : (buffer : Bytes) → Simulates (turnJudged b buffer accept) buffer (turnTaken σ)
   unfolding turnJudged turnDid turnTaken serves replyBy replyOf withJobs
@@ -300,3 +301,17 @@ module _ (σ : Schedule Bytes) (b : Bytes) (r : Rep σ b) where
 
       others : quarterOf (turnJudged b buffer accept .board) q ≡ quarterOf b q
       others = judged-board b buffer q (named (u64At b turnAt) (r .turn))
+
+  -- a submit leaves the quarters of the other queues
+  judged-others : (queue kind n : ℕ) (block : Bytes) (v : Verdict) → submitVerdict queue kind n (length block) (length (σ .queues queue .jobs)) ≡ v → (q : ℕ) → (q ≡ queue → ⊥)
+      → quarterOf (submitJudged b queue kind n block v .board) q ≡ quarterOf b q
+  unfolding submitJudged refusedDid
+  judged-others queue kind n block accept e q ne =
+      let s = submit-accepted queue kind n _ _ e in
+      let rv = submit-rep (σ .queues queue .count) (σ .queues queue .jobs) (quarterOf b queue) (r .each queue (s .queue-low)) kind n block (record { kind-fits = s .kind-fits; count-fits = s .count-fits; block-fits = s .size-fits }) (s .room) in
+      quarter-other b (submitQuarter (quarterOf b queue) kind n block) queue q (rv .len) ne
+  judged-others queue kind n block (refuse number) e q ne = refl
+
+  pub submit-others : (queue kind n : ℕ) (block : Bytes) (q : ℕ) → (q ≡ queue → ⊥) → quarterOf (submitBoard b queue kind n block .board) q ≡ quarterOf b q
+  unfolding submitBoard
+  submit-others queue kind n block q ne = rw (submit-verdict queue kind n block) (judged-others queue kind n block _ refl q ne)

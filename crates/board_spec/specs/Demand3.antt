@@ -1,12 +1,14 @@
 -- Demand 3: what holds of whole runs, lists of calls of any kind and any arguments, from the fresh board. Statements only; `demand-3` in proofs/Demand3.antt proves them.
 use mathlib.Core.Path.{_≡_}
 use Prim.Native.Nat.{ℕ, _+_, _≤_}
+use mathlib.Core.Bool.{true}
 use mathlib.Core.List.{List, [], _∷_, _++_, map}
 use mathlib.Core.Option.{Option, some}
 use lib.ListN.{length}
 use Rattle.buf.specs.Bytes.{part, u64At}
 use Rattle.block.specs.Alike.{Alike}
 use Rattle.records.specs.Record.{publicBytes, sealedAt, sealedOf}
+use Rattle.records.specs.Demand2.{rustSealed, cleanRequest}
 use Rattle.schedule.specs.Spans.{spanOf}
 use Rattle.schedule.specs.Schedule.{Held, Call, Submit, Look, Event, served, happens, events, afterAll, fresh}
 use Rattle.schedule.specs.History.{times, queuesServed, allAsAccepted, acceptedIn, handedIn, work}
@@ -99,6 +101,8 @@ pub record Orderly (run : Calls) : Type 0 where
   pub public-alone : map publicOf (replies zeroBoard run) ≡ map publicEvent (events (λ n. n) fresh (fieldsOf run))
   -- a record's sealed bytes are those of its job, and its public bytes name it
   pub record-sealed : (x : Release run) → sealedIn x ≡ sealedOf (x .job .kind) (x .job .n) (x .job .block)
+  -- "holding demand 2's answer, else document 01's": the Rust's where the request is clean
+  pub record-rust : (x : Release run) → cleanRequest (x .job .kind) (x .job .n) (x .job .block) ≡ true → sealedIn x ≡ rustSealed (x .job .kind) (x .job .n) (x .job .block)
   pub record-public : (x : Release run) → part (didAt (x .place) .buffer) 0 16 ≡ publicBytes (x .job .ticket) (x .job .kind) (x .queue)
   -- the jobs handed out of a queue, in order, and then those it still holds, are the jobs it accepted, in order
   pub in-order : (q : ℕ) → acceptedIn length q fresh run ≡ handedIn q (events length fresh run) ++ allAsAccepted (afterAll length fresh run .queues q .jobs)
@@ -111,6 +115,8 @@ pub record Orderly (run : Calls) : Type 0 where
   -- a turn serves the queue that the board's turn names, and leaves the other quarters as they were
   pub serves-named : (p : Place run) (queue : ℕ) (o : Option (Held Bytes)) → eventAt p ≡ served queue o → u64At (boardAt p) turnAt ≡ queue
   pub others-kept : (p : Place run) (queue : ℕ) (o : Option (Held Bytes)) → eventAt p ≡ served queue o → (q : ℕ) → q ≤ 3 → (q ≡ queue → ⊥) → quarterOf (didAt p .board) q ≡ quarterOf (boardAt p) q
+  -- and so does a submit
+  pub submit-others : (p : Place run) (queue kind n : ℕ) (block : Bytes) → p .call ≡ Submit queue kind n block → (q : ℕ) → q ≤ 3 → (q ≡ queue → ⊥) → quarterOf (didAt p .board) q ≡ quarterOf (boardAt p) q
   -- any four successive accepted turns serve each queue once
   pub four-turns : (xs ys : List ℕ) (a b c d : ℕ) → queuesServed (events length fresh run) ≡ xs ++ (a ∷ b ∷ c ∷ d ∷ ys) → (q : ℕ) → q ≤ 3 → times q (a ∷ b ∷ c ∷ d ∷ []) ≡ 1
   -- refused calls and looks change nothing
