@@ -1,55 +1,68 @@
--- Blocks that agree on every byte read have the same view. Assumes nothing.
-use mathlib.Core.Path.{_≡_, refl, sym, ap, _∙_}
+-- The three forms of `specs/Alike.antt`: the same bytes where read are the same numbers, and these the same job. Assumes nothing.
+use mathlib.Core.Path.{_≡_, refl, sym, ap, subst, _∙_}
 use Prim.Native.Nat.{ℕ, _+_, _-_, _*_, _/_, _≤_}
 use native.Mathlib.Omega.{arith}
 use mathlib.Core.Bool.{Bool, true, false, cond}
 use mathlib.Core.List.{List}
-use lib.Dec.{leb, ltb}
-use lib.Ieee.{binary64, ofBits}
+use lib.ListN.{length}
+use lib.Dec.{eqb, ltb}
+use lib.Ieee.{Float, binary64, ofBits}
 use borrow.Author.Tests.{le-leb, ltb-true}
 use Rattle.float.specs.Ops.{f0}
 use Rattle.buf.specs.Bytes.{part, numAt, u64At, f64At}
 use Rattle.buf.proofs.Laws.{numAt-part}
+use Rattle.schedule.specs.Spans.{kindFits, countFits}
+use Rattle.block.specs.declared.types.Conditions.{Conditions}
+use Rattle.block.specs.declared.types.Numbers.{Numbers}
+use Rattle.block.specs.declared.types.Job.{Job}
 use Rattle.block.specs.Pairs.{offsetOf, lengthOf, coefficients, interactions, fractions, conditions, lengthsFit, offsetsFit, pairsFit}
-use Rattle.block.specs.Numbers.{floatsAt, fractionCount, usesChoice, usesPressure, usesStart, choiceOf, pressureOf, startOf, conditionsOf, numbersOf}
-use Rattle.block.specs.View.{refused, checked, view}
-use Rattle.block.specs.Alike.{Same, SameRead, Alike}
+use Rattle.block.specs.Numbers.{floatsAt, readsFractions, fractionCount, usesChoice, usesPressure, usesStart, choiceOf, pressureOf, startOf, conditionsOf, numbersOf}
+use Rattle.block.specs.View.{taskOf, refused, check, runBlend, checked, view}
+use Rattle.block.specs.Alike.{SameRead, SameBytes, Stage, both-refused, both-pass, SameConditions, SameData, SameNumbers, Alike}
 use Rattle.block.proofs.Lists.{tabulate-same}
 
--- ---- numbers in bytes that are the same
-num-same : (s t : List ℕ) (at count k i : ℕ) → Same s t at count → i + k ≤ count → numAt k s (at + i) ≡ numAt k t (at + i)
-num-same s t at count k i e h =
-    sym (numAt-part k s at count i (le-leb _ _ h)) ∙ ap (λ (l : List ℕ). numAt k l i) e ∙ numAt-part k t at count i (le-leb _ _ h)
+-- ---- numbers in bytes that are the same, in one block at index at and in the other at index to
 
-first-same : (s t : List ℕ) (at : ℕ) → Same s t at 8 → numAt 8 s at ≡ numAt 8 t at
-first-same s t at e = let z : at + 0 ≡ at = omega arith in rw z at (num-same s t at 8 8 0 e (omega arith))
+abbrev Same : (s : List ℕ) (at : ℕ) (t : List ℕ) (to count : ℕ) → Type 0
+Same s at t to count = part s at count ≡ part t to count
 
-f64-same : (s t : List ℕ) (at : ℕ) → Same s t at 8 → f64At s at ≡ f64At t at
-f64-same s t at e = ap (ofBits binary64) (first-same s t at e)
+num-same : (s : List ℕ) (at : ℕ) (t : List ℕ) (to count k i : ℕ) → Same s at t to count → i + k ≤ count → numAt k s (at + i) ≡ numAt k t (to + i)
+num-same s at t to count k i e h =
+    sym (numAt-part k s at count i (le-leb _ _ h)) ∙ ap (λ (l : List ℕ). numAt k l i) e ∙ numAt-part k t to count i (le-leb _ _ h)
+
+first-same : (s : List ℕ) (at : ℕ) (t : List ℕ) (to : ℕ) → Same s at t to 8 → numAt 8 s at ≡ numAt 8 t to
+first-same s at t to e =
+    let z : at + 0 ≡ at = omega arith in
+    let w : to + 0 ≡ to = omega arith in
+    rw (z, w) at (num-same s at t to 8 8 0 e (omega arith))
+
+f64-same : (s : List ℕ) (at : ℕ) (t : List ℕ) (to : ℕ) → Same s at t to 8 → f64At s at ≡ f64At t to
+f64-same s at t to e = ap (ofBits binary64) (first-same s at t to e)
 
 -- where a test holds, the same; else one value
 cond-same : {A : Type 0} (b : Bool) (x y d : A) → (b ≡ true → x ≡ y) → cond b x d ≡ cond b y d
 cond-same true x y d h = h refl
 cond-same false x y d h = refl
 
-floats-same : (s t : List ℕ) (at count bytes : ℕ) → Same s t at bytes → 8 * count ≤ bytes → floatsAt count s at ≡ floatsAt count t at
+floats-same : (s : List ℕ) (at : ℕ) (t : List ℕ) (to count bytes : ℕ) → Same s at t to bytes → 8 * count ≤ bytes → floatsAt count s at ≡ floatsAt count t to
 unfolding floatsAt
-floats-same s t at count bytes e h =
-    tabulate-same 28 _ _ (λ i _. cond-same (ltb i count) _ _ f0 (λ q. ap (ofBits binary64) (num-same s t at bytes 8 (8 * i) e (omega (arith, ltb-true i count q)))))
+floats-same s at t to count bytes e h =
+    tabulate-same 28 _ _ (λ i _. cond-same (ltb i count) _ _ f0 (λ q. ap (ofBits binary64) (num-same s at t to bytes 8 (8 * i) e (omega (arith, ltb-true i count q)))))
 
 -- ---- the pairs
-pair-same : (s t : List ℕ) (i : ℕ) → Same s t 0 16 → i + 2 ≤ 16 → numAt 2 s i ≡ numAt 2 t i
-pair-same s t i e h = let z : 0 + i ≡ i = omega arith in rw z at (num-same s t 0 16 2 i e h)
 
-offset-same : (s t : List ℕ) (i : ℕ) → Same s t 0 16 → i ≤ 3 → offsetOf s i ≡ offsetOf t i
+pair-same : (s t : List ℕ) (i : ℕ) → Same s 0 t 0 16 → i + 2 ≤ 16 → numAt 2 s i ≡ numAt 2 t i
+pair-same s t i e h = let z : 0 + i ≡ i = omega arith in rw z at (num-same s 0 t 0 16 2 i e h)
+
+offset-same : (s t : List ℕ) (i : ℕ) → Same s 0 t 0 16 → i ≤ 3 → offsetOf s i ≡ offsetOf t i
 unfolding offsetOf
 offset-same s t i e h = pair-same s t (4 * i) e (omega arith)
 
-length-same : (s t : List ℕ) (i : ℕ) → Same s t 0 16 → i ≤ 3 → lengthOf s i ≡ lengthOf t i
+length-same : (s t : List ℕ) (i : ℕ) → Same s 0 t 0 16 → i ≤ 3 → lengthOf s i ≡ lengthOf t i
 unfolding lengthOf
 length-same s t i e h = pair-same s t (4 * i + 2) e (omega arith)
 
-pairs-same : (n : ℕ) (s t : List ℕ) → Same s t 0 16 → pairsFit n s ≡ pairsFit n t
+pairs-same : (n : ℕ) (s t : List ℕ) → Same s 0 t 0 16 → pairsFit n s ≡ pairsFit n t
 unfolding pairsFit lengthsFit offsetsFit
 pairs-same n s t e =
     rw (
@@ -63,41 +76,107 @@ pairs-same n s t e =
       length-same s t 3 e (omega arith),
     )
 
--- ---- what is read
-fraction-bytes : (kind n : ℕ) (s t : List ℕ) (at : ℕ) → (leb kind 4 ≡ true → Same s t at (8 * n)) → floatsAt (fractionCount kind n) s at ≡ floatsAt (fractionCount kind n) t at
-unfolding fractionCount
-fraction-bytes kind n s t at h = go (leb kind 4) h
-  where
-    go : (b : Bool) → (b ≡ true → Same s t at (8 * n)) → floatsAt (cond b n 0) s at ≡ floatsAt (cond b n 0) t at
-    go true h = floats-same s t at n (8 * n) (h refl) (omega arith)
-    go false h = floats-same s t at 0 0 (unfold part in refl) (omega arith)
+-- ---- the numbers read
 
-conditions-same : (kind : ℕ) (s t : List ℕ) (at : ℕ) → (usesChoice kind ≡ true → Same s t at 8) → Same s t (at + 8) 8 → (usesPressure kind ≡ true → Same s t (at + 16) 8)
-    → (usesStart kind (choiceOf kind s at) ≡ true → Same s t (at + 24) 8) → conditionsOf kind s at ≡ conditionsOf kind t at
+fraction-bytes : (kind n : ℕ) (s : List ℕ) (at : ℕ) (t : List ℕ) (to : ℕ) → (readsFractions kind ≡ true → Same s at t to (8 * n))
+    → floatsAt (fractionCount kind n) s at ≡ floatsAt (fractionCount kind n) t to
+unfolding fractionCount
+fraction-bytes kind n s at t to h = go (readsFractions kind) h
+  where
+    go : (b : Bool) → (b ≡ true → Same s at t to (8 * n)) → floatsAt (cond b n 0) s at ≡ floatsAt (cond b n 0) t to
+    go true h = floats-same s at t to n (8 * n) (h refl) (omega arith)
+    go false h = floats-same s at t to 0 0 (unfold part in refl) (omega arith)
+
+conditions-same : (kind : ℕ) (s : List ℕ) (at : ℕ) (t : List ℕ) (to : ℕ) → (usesChoice kind ≡ true → Same s at t to 8) → Same s (at + 8) t (to + 8) 8
+    → (usesPressure kind ≡ true → Same s (at + 16) t (to + 16) 8) → (usesStart kind (choiceOf kind s at) ≡ true → Same s (at + 24) t (to + 24) 8)
+    → conditionsOf kind s at ≡ conditionsOf kind t to
 unfolding conditionsOf choiceOf pressureOf startOf
-conditions-same kind s t at c temperature p start =
-    let ec = cond-same (usesChoice kind) (u64At s at) (u64At t at) 0 (λ q. first-same s t at (c q)) in
-    let et = f64-same s t (at + 8) temperature in
-    let ep = cond-same (usesPressure kind) (f64At s (at + 16)) (f64At t (at + 16)) f0 (λ q. f64-same s t (at + 16) (p q)) in
-    let es = cond-same (usesStart kind (choiceOf kind s at)) (f64At s (at + 24)) (f64At t (at + 24)) f0 (λ q. f64-same s t (at + 24) (start q)) in
+conditions-same kind s at t to c temperature p start =
+    let ec = cond-same (usesChoice kind) (u64At s at) (u64At t to) 0 (λ q. first-same s at t to (c q)) in
+    let et = f64-same s (at + 8) t (to + 8) temperature in
+    let ep = cond-same (usesPressure kind) (f64At s (at + 16)) (f64At t (to + 16)) f0 (λ q. f64-same s (at + 16) t (to + 16) (p q)) in
+    let es = cond-same (usesStart kind (choiceOf kind s at)) (f64At s (at + 24)) (f64At t (to + 24)) f0 (λ q. f64-same s (at + 24) t (to + 24) (start q)) in
     rw (es, et, ep, ec)
 
-numbers-same : (kind n : ℕ) (s t : List ℕ) → Same s t 0 16 → SameRead kind n s t → numbersOf kind n s ≡ numbersOf kind n t
+numbers-same : (kind n : ℕ) (s t : List ℕ) → SameRead kind n s t → numbersOf kind n s ≡ numbersOf kind n t
 unfolding numbersOf
-numbers-same kind n s t e r =
+numbers-same kind n s t r =
+    let none : (k : ℕ) → k + 0 ≡ k = λ k. omega arith in
     rw (
-      floats-same s t (offsetOf s coefficients) (3 * n) (24 * n) (r .in-coefficients) (omega arith),
-      floats-same s t (offsetOf s interactions) (n * (n - 1) / 2) (4 * (n * (n - 1))) (r .in-interactions) (omega arith),
-      fraction-bytes kind n s t (offsetOf s fractions) (r .in-fractions),
-      conditions-same kind s t (offsetOf s conditions) (r .in-choice) (r .in-temperature) (r .in-pressure) (r .in-start),
-      offset-same s t 0 e (omega arith),
-      offset-same s t 1 e (omega arith),
-      offset-same s t 2 e (omega arith),
-      offset-same s t 3 e (omega arith),
+      floats-same s (offsetOf s coefficients) t (offsetOf t coefficients) (3 * n) (24 * n) (simp none at (r .in-coefficients)) (omega arith),
+      floats-same s (offsetOf s interactions) t (offsetOf t interactions) (n * (n - 1) / 2) (4 * (n * (n - 1))) (simp none at (r .in-interactions)) (omega arith),
+      fraction-bytes kind n s (offsetOf s fractions) t (offsetOf t fractions) (λ q. simp none at (r .in-fractions q)),
+      conditions-same kind s (offsetOf s conditions) t (offsetOf t conditions) (λ q. simp none at (r .in-choice q)) (r .in-temperature) (r .in-pressure) (r .in-start),
     )
 
-pub view-alike : (kind n : ℕ) (s t : List ℕ) → Alike kind n s t → view kind n s ≡ view kind n t
+-- ---- 1 implies 2
+
+-- a check that both pass or both are refused by
+stage : {A : Type 0} (fits : A → Bool) (a b : A) {Same Next : Type 0} → fits a ≡ fits b → (fits a ≡ true → Same) → (fits a ≡ true → Next) → Stage fits a b Same Next
+stage {A} fits a b {Same} {Next} e same next = go (fits a) refl
+  where
+    go : (x : Bool) → fits a ≡ x → Stage fits a b Same Next
+    go true q = both-pass q (sym e ∙ q) (same q) (next q)
+    go false q = both-refused q (sym e ∙ q)
+
+-- the same numbers, whatever they are
+pub same-data : (kind n : ℕ) (d e : Numbers) → d ≡ e → SameData kind n d e
+unfolding SameData
+same-data kind n d e q =
+    stage _ _ _ (rw q) (λ _. rw q)
+    (λ _. stage _ _ _ (rw q) (λ _. rw q)
+    (λ _. stage _ _ _ (rw q) (λ _. rw q)
+    (λ _. stage _ _ _ (rw q) (λ _. record { in-temperature = rw q; in-pressure = rw q; in-start = rw q })
+    (λ _. stage _ _ _ (rw q) (λ _. rw q) (λ _. tt)))))
+
+pub bytes-numbers : (kind n : ℕ) (s t : List ℕ) → SameBytes kind n s t → SameNumbers kind n s t
+bytes-numbers kind n s t a = record {
+  in-length = a .in-length;
+  in-data = stage (pairsFit n) s t (pairs-same n s t (a .in-pairs)) (λ _. tt) (λ q. same-data kind n _ _ (numbers-same kind n s t (a .in-parts q)));
+}
+
+-- ---- 2 implies 3
+
+stage-same : {A : Type 0} {fits : A → Bool} {a b : A} {Same Next : Type 0} (number : ℕ) (x y : Job) → Stage fits a b Same Next → (Same → Next → x ≡ y)
+    → check (fits a) number x ≡ check (fits b) number y
+stage-same number x y (both-refused p q) h = rw (p, q)
+stage-same number x y (both-pass p q same next) h = rw (p, q) (h same next)
+
+all-same : (d e : Numbers) → d .coefficients ≡ e .coefficients → d .interactions ≡ e .interactions → d .fractions ≡ e .fractions
+    → SameConditions (d .conditions) (e .conditions) → d .conditions .choice ≡ e .conditions .choice → d ≡ e
+all-same d e c i x s q =
+    λ j. record {
+      coefficients = c j;
+      interactions = i j;
+      fractions = x j;
+      conditions = record { choice = q j; temperature = s .in-temperature j; pressure = s .in-pressure j; start = s .in-start j };
+    }
+
+pub data-alike : (kind n : ℕ) (d e : Numbers) → SameData kind n d e → checked kind n d ≡ checked kind n e
+unfolding SameData checked
+data-alike kind n d e a =
+    stage-same 12 _ _ a
+    (λ ec a₁. stage-same 13 _ _ a₁
+    (λ ei a₂. stage-same 14 _ _ a₂
+    (λ ex a₃. stage-same 15 _ _ a₃
+    (λ es a₄. stage-same 16 _ _ a₄
+    (λ eq _. ap (λ (f : Numbers). record { task = taskOf kind (f .conditions); blend = runBlend kind n f }) (all-same d e ec ei ex es eq))))))
+
+pub numbers-alike : (kind n : ℕ) (s t : List ℕ) → SameNumbers kind n s t → Alike kind n s t
 unfolding view
-view-alike kind n s t a =
-    let checks = cond-same (pairsFit n s) (checked kind n (numbersOf kind n s)) (checked kind n (numbersOf kind n t)) (refused 11) (λ q. ap (checked kind n) (numbers-same kind n s t (a .in-pairs) (a .in-parts q))) in
-    rw (checks, pairs-same n s t (a .in-pairs), a .in-length)
+numbers-alike kind n s t a =
+    let checks = stage-same 11 _ _ (a .in-data) (λ _ d. data-alike kind n (numbersOf kind n s) (numbersOf kind n t) d) in
+    rw (checks, a .in-length)
+
+pub bytes-alike : (kind n : ℕ) (s t : List ℕ) → SameBytes kind n s t → Alike kind n s t
+bytes-alike kind n s t a = numbers-alike kind n s t (bytes-numbers kind n s t a)
+
+-- ---- blocks that are alike though their bytes are not
+
+-- Blocks whose pairs do not fit, whatever else they hold: "11 pairs" comes first.
+pub unfit-pairs : (kind n : ℕ) (s t : List ℕ) → length s ≡ 640 → length t ≡ 640 → pairsFit n s ≡ false → pairsFit n t ≡ false → SameNumbers kind n s t
+unfit-pairs kind n s t l m p q = record { in-length = l ∙ sym m; in-data = both-refused p q }
+
+-- The same parts at other offsets, with anything in between.
+pub moved-parts : (kind n : ℕ) (s t : List ℕ) → length s ≡ 640 → length t ≡ 640 → pairsFit n s ≡ true → pairsFit n t ≡ true → SameRead kind n s t → SameNumbers kind n s t
+moved-parts kind n s t l m p q r = record { in-length = l ∙ sym m; in-data = both-pass p q tt (same-data kind n _ _ (numbers-same kind n s t r)) }

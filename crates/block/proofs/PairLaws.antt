@@ -7,7 +7,7 @@ use mathlib.Core.List.{List}
 use lib.Dec.{leb, eqb}
 use borrow.Author.Tests.{eqb-true, leb-true}
 use Rattle.block.specs.Pairs.{offsetOf, lengthOf, endOf, coefficients, interactions, fractions, conditions, lengthsFit, offsetsFit, pairsFit}
-use Rattle.block.specs.Numbers.{fractionCount}
+use Rattle.block.specs.Numbers.{readsFractions, fractionCount}
 
 pub both : (a : Bool) {b : Bool} → a && b ≡ true → (a ≡ true) × (b ≡ true)
 both true h = (refl, h)
@@ -39,7 +39,7 @@ within n s h =
 
 pub fractions-most : (kind n : ℕ) → fractionCount kind n ≤ n
 unfolding fractionCount
-fractions-most kind n = go (leb kind 4)
+fractions-most kind n = go (readsFractions kind)
   where
     go : (b : Bool) → cond b n 0 ≤ n
     go true = omega arith

@@ -2,14 +2,14 @@
 use Prim.Native.Nat.{ℕ, _+_, _*_}
 use mathlib.Core.Bool.{Bool, cond, not, _&&_, _||_}
 use mathlib.Core.List.{List}
-use lib.Dec.{leb, ltb, eqb}
+use lib.Dec.{ltb, eqb}
 use lib.Ieee.{Float, binary64, lt, toBits}
 use Rattle.float.specs.Ops.{f0}
 use Rattle.float.specs.Sign.{finiteOf, negativeOf}
 use Rattle.eos.specs.declared.types.Component.{Component}
 use Rattle.eos.specs.Cubic.{componentOf}
 use Rattle.block.specs.Lists.{allBelow}
-use Rattle.block.specs.Numbers.{interactionCount}
+use Rattle.block.specs.Numbers.{interactionCount, readsFractions, zeroIsNone}
 use Rattle.block.specs.Blend.{at}
 use Rattle.block.specs.declared.types.Conditions.{Conditions}
 
@@ -44,7 +44,7 @@ unfoldable pub fractionsFit : (n : ℕ) → List Float → Bool
 fractionsFit n row = allBelow n (λ i. fractionFits (at row i))
 
 unfoldable pub temperatureFits : (kind : ℕ) → Float → Bool
-temperatureFits kind t = positive t || (eqb kind 5 && plusZero t)
+temperatureFits kind t = positive t || (zeroIsNone kind && plusZero t)
 
 -- "15 a used temperature not finite and positive (kind 5: or +0), used pressure or start not finite"
 unfoldable pub conditionsFit : (kind : ℕ) → Conditions → Bool
@@ -52,8 +52,7 @@ conditionsFit kind c = temperatureFits kind (c .temperature) && (finiteOf (c .pr
 
 -- "Choice: kind 1, 0 vapour, 1 liquid, 2 start; kind 4, 0 or 1 likewise; kinds 5 and 6, the component"
 unfoldable pub choices : (kind n : ℕ) → ℕ
-choices kind n = cond (eqb kind 1) 3 (cond (eqb kind 4) 2 (cond (leb 5 kind) n 1))
+choices kind n = cond (eqb kind 1) 3 (cond (eqb kind 4) 2 (cond (readsFractions kind) 1 n))
 
--- "16 choice"
 unfoldable pub choiceFits : (kind n choice : ℕ) → Bool
 choiceFits kind n choice = ltb choice (choices kind n)

@@ -1,6 +1,6 @@
 -- Which numbers of a request block a job reads. What it does not read stands as 0 or +0, which every check lets pass. Definitions only.
 use Prim.Native.Nat.{ℕ, _+_, _-_, _*_, _/_}
-use mathlib.Core.Bool.{Bool, cond, _||_}
+use mathlib.Core.Bool.{Bool, cond, not, _||_}
 use mathlib.Core.List.{List}
 use lib.Dec.{leb, ltb, eqb}
 use lib.Ieee.{Float}
@@ -23,21 +23,28 @@ coefficientCount n = 3 * n
 abbrev pub interactionCount : ℕ → ℕ
 interactionCount n = n * (n - 1) / 2
 
--- "Kinds 5 and 6 read no fractions"
-unfoldable pub fractionCount : (kind n : ℕ) → ℕ
-fractionCount kind n = cond (leb kind 4) n 0
+-- "Kinds 5 and 6 read no fractions": they search one component, the others the whole blend
+unfoldable pub readsFractions : (kind : ℕ) → Bool
+readsFractions kind = leb kind 4
 
--- "Choice: kind 1 ..; kind 4 ..; kinds 5 and 6 .."
+unfoldable pub fractionCount : (kind n : ℕ) → ℕ
+fractionCount kind n = cond (readsFractions kind) n 0
+
+-- "Kind 5 reads +0 in temperature or start as none"
+unfoldable pub zeroIsNone : (kind : ℕ) → Bool
+zeroIsNone kind = eqb kind 5
+
+-- "Choice: kind 1 ..; kind 4 ..; kinds 5 and 6, the component"
 unfoldable pub usesChoice : (kind : ℕ) → Bool
-usesChoice kind = eqb kind 1 || leb 4 kind
+usesChoice kind = eqb kind 1 || (eqb kind 4 || not (readsFractions kind))
 
 -- kinds 1 and 2 search a density at a pressure
 unfoldable pub usesPressure : (kind : ℕ) → Bool
 usesPressure kind = leb kind 2
 
--- kind 1 with choice 2, "start"; "Pressure spinodal from a start"; "Kind 5 reads +0 in temperature or start as none"
+-- kind 1 with choice 2, "start"; "Pressure spinodal from a start"; a start that may be none
 unfoldable pub usesStart : (kind choice : ℕ) → Bool
-usesStart kind choice = cond (eqb kind 1) (eqb choice 2) (eqb kind 3 || eqb kind 5)
+usesStart kind choice = cond (eqb kind 1) (eqb choice 2) (eqb kind 3 || zeroIsNone kind)
 
 unfoldable pub choiceOf : (kind : ℕ) → List ℕ → ℕ → ℕ
 choiceOf kind s at = cond (usesChoice kind) (u64At s at) 0

@@ -3,8 +3,9 @@ use Prim.Native.Nat.{ℕ}
 use mathlib.Core.Bool.{Bool, cond, _&&_}
 use mathlib.Core.List.{List}
 use lib.ListN.{length}
-use lib.Dec.{leb, eqb}
+use lib.Dec.{eqb}
 use lib.Ieee.{Float}
+use Rattle.schedule.specs.Spans.{kindFits, countFits}
 use Rattle.eos.specs.declared.types.Blend.{Blend}
 use Rattle.eos.specs.Cubic.{maxDensity, pureOf}
 use Rattle.solver.specs.declared.types.DensityInitialization.{DensityInitialization}
@@ -19,7 +20,7 @@ use Rattle.block.specs.declared.types.Task.{Task}
 use Rattle.block.specs.declared.types.Task.the-variants.{Refused, DensityIteration, DensityIterationStable, PressureSpinodal, PressureSpinodalBranch, CriticalPoint, Spinodal}
 use Rattle.block.specs.declared.types.Job.{Job}
 use Rattle.block.specs.Pairs.{pairsFit}
-use Rattle.block.specs.Numbers.{numbersOf}
+use Rattle.block.specs.Numbers.{readsFractions, numbersOf}
 use Rattle.block.specs.Blend.{blendOf, emptyBlend}
 use Rattle.block.specs.Checks.{positive, plusZero, componentsFit, interactionsFit, fractionsFit, conditionsFit, choiceFits}
 
@@ -46,7 +47,7 @@ taskOf kind c =
 
 -- the whole blend, or in kinds 5 and 6 the chosen component alone
 unfoldable pub searched : (kind choice : ℕ) → Blend → Blend
-searched kind choice blend = cond (leb kind 4) blend (pureOf blend choice)
+searched kind choice blend = cond (readsFractions kind) blend (pureOf blend choice)
 
 unfoldable pub refused : ℕ → Job
 refused number = record { task = Refused number; blend = emptyBlend }
@@ -55,9 +56,13 @@ refused number = record { task = Refused number; blend = emptyBlend }
 abbrev pub check : Bool → ℕ → Job → Job
 check ok number next = cond ok next (refused number)
 
--- "or the run's maximum density not finite and positive"
-unfoldable pub readyOf : Task → Blend → Job
-readyOf task blend = check (positive (maxDensity blend)) 16 (record { task = task; blend = blend })
+-- the blend that the run searches
+abbrev pub runBlend : (kind n : ℕ) → Numbers → Blend
+runBlend kind n d = searched kind (d .conditions .choice) (blendOf n d)
+
+-- "16 choice, or the run's maximum density not finite and positive"
+unfoldable pub runFits : (kind n : ℕ) → Numbers → Bool
+runFits kind n d = choiceFits kind n (d .conditions .choice) && positive (maxDensity (runBlend kind n d))
 
 -- "The supplier's data, sealed, in this order", after 11
 unfoldable pub checked : (kind n : ℕ) → Numbers → Job
@@ -66,14 +71,13 @@ checked kind n d =
     (check (interactionsFit n (d .interactions)) 13
     (check (fractionsFit n (d .fractions)) 14
     (check (conditionsFit kind (d .conditions)) 15
-    (check (choiceFits kind n (d .conditions .choice)) 16
-    (readyOf (taskOf kind (d .conditions)) (searched kind (d .conditions .choice) (blendOf n d)))))))
+    (check (runFits kind n d) 16 (record { task = taskOf kind (d .conditions); blend = runBlend kind n d })))))
 
 -- "2 kind not 1 to 6; 3 N not 1 to 8; .. 8 block not 640 bytes", in submit's order; then the data
 unfoldable pub view : (kind n : ℕ) → List ℕ → Job
 view kind n s =
-    check (leb 1 kind && leb kind 6) 2
-    (check (leb 1 n && leb n 8) 3
+    check (kindFits kind) 2
+    (check (countFits n) 3
     (check (eqb (length s) 640) 8
     (check (pairsFit n s) 11
     (checked kind n (numbersOf kind n s)))))

@@ -2,6 +2,8 @@
 ghost use mathlib.Core.Path.{_≡_};
 ghost use Prim.Native.Nat.{_≤_};
 ghost use Rattle.block.specs.Checks.{positive as positiveOf, plusZero, parametersFit, componentFits, componentsFit, interactionsFit, fractionFits, fractionsFit, temperatureFits, conditionsFit, choices as choicesOf, choiceFits};
+use crate::numbers::reads_fractions;
+use crate::numbers::zero_is_none;
 use crate::types::Conditions;
 use eos::Component;
 
@@ -105,7 +107,7 @@ fn temperature_fits(kind: u64, t: f64) -> bool
     if positive(t) {
         return true;
     }
-    if kind == 5 {
+    if zero_is_none(kind) {
         return is_plus_zero(t);
     }
     false
@@ -132,10 +134,10 @@ fn choices(kind: u64, n: u64) -> u64
     if kind == 4 {
         return 2;
     }
-    if 5 <= kind {
-        return n;
+    if reads_fractions(kind) {
+        return 1;
     }
-    1
+    n
 }
 
 pub fn choice_fits(kind: u64, n: u64, choice: u64) -> bool

@@ -7,7 +7,7 @@ ghost use lib.Dec.{ltb};
 ghost use Rattle.float.specs.Ops.{f0};
 ghost use Rattle.buf.specs.Bytes.{f64At};
 ghost use Rattle.block.specs.Pairs.{pairsFit};
-ghost use Rattle.block.specs.Numbers.{floatsAt, fractionCount, usesChoice, usesStart, choiceOf, pressureOf, startOf, conditionsOf, numbersOf};
+ghost use Rattle.block.specs.Numbers.{floatsAt, readsFractions, fractionCount, zeroIsNone, usesChoice, usesStart, choiceOf, pressureOf, startOf, conditionsOf, numbersOf};
 use crate::pairs::offset;
 use crate::types::Conditions;
 use crate::types::Numbers;
@@ -36,13 +36,25 @@ fn floats(block: &[u8], at: usize, count: usize) -> [f64; 28]
     row
 }
 
+pub fn reads_fractions(kind: u64) -> bool
+    ensures { λ r. ⌜ r ≡ readsFractions kind ⌝ }
+{
+    kind <= 4
+}
+
 fn fraction_count(kind: u64, n: usize) -> usize
     ensures { λ r. ⌜ r ≡ fractionCount kind n ⌝ }
 {
-    if kind <= 4 {
+    if reads_fractions(kind) {
         return n;
     }
     0
+}
+
+pub fn zero_is_none(kind: u64) -> bool
+    ensures { λ r. ⌜ r ≡ zeroIsNone kind ⌝ }
+{
+    kind == 5
 }
 
 fn uses_choice(kind: u64) -> bool
@@ -51,7 +63,10 @@ fn uses_choice(kind: u64) -> bool
     if kind == 1 {
         return true;
     }
-    4 <= kind
+    if kind == 4 {
+        return true;
+    }
+    !reads_fractions(kind)
 }
 
 fn uses_start(kind: u64, choice: u64) -> bool
@@ -63,7 +78,7 @@ fn uses_start(kind: u64, choice: u64) -> bool
     if kind == 3 {
         return true;
     }
-    kind == 5
+    zero_is_none(kind)
 }
 
 fn choice(kind: u64, block: &[u8], at: usize) -> u64

@@ -1,7 +1,9 @@
 // What a job reads of a request, or the refusal.
 ghost use mathlib.Core.Path.{_≡_};
 ghost use Prim.Native.Nat.{_≤_};
-ghost use Rattle.block.specs.View.{initialOf, branchOf, givenOf, taskOf, searched as searchedOf, refused as refusedOf, readyOf, checked as checkedOf, view as viewOf};
+ghost use Rattle.eos.specs.Cubic.{maxDensity};
+ghost use Rattle.block.specs.Checks.{positive as positiveOf};
+ghost use Rattle.block.specs.View.{initialOf, branchOf, givenOf, taskOf, searched as searchedOf, refused as refusedOf, check, checked as checkedOf, view as viewOf};
 use crate::blend::blend;
 use crate::blend::empty;
 use crate::checks::choice_fits;
@@ -12,6 +14,7 @@ use crate::checks::interactions_fit;
 use crate::checks::is_plus_zero;
 use crate::checks::positive;
 use crate::numbers::numbers;
+use crate::numbers::reads_fractions;
 use crate::pairs::pairs_fit;
 use crate::types::Conditions;
 use crate::types::Job;
@@ -77,7 +80,7 @@ fn task(kind: u64, c: Conditions) -> Task
 fn searched(kind: u64, choice: u64, whole: Blend) -> Blend
     ensures { λ r. ⌜ r ≡ searchedOf kind choice whole ⌝ }
 {
-    if kind <= 4 {
+    if reads_fractions(kind) {
         return whole;
     }
     eos::pure(whole, choice as usize)
@@ -94,7 +97,7 @@ fn refused(number: u64) -> Job
 }
 
 fn ready(task: Task, blend: Blend) -> Job
-    ensures { λ r. ⌜ r ≡ readyOf task blend ⌝ }
+    ensures { λ r. ⌜ r ≡ check (positiveOf (maxDensity blend)) 16 (record { task = task; blend = blend }) ⌝ }
 {
     if !positive(eos::compute_max_density(blend)) {
         return refused(16);
@@ -135,16 +138,10 @@ fn checked(kind: u64, n: u64, d: Numbers) -> Job
 pub fn view(kind: u64, n: u64, block: &[u8]) -> Job
     ensures { λ r. ⌜ r ≡ viewOf kind n (now (block .entry)) ⌝ }
 {
-    if kind < 1 {
+    if !schedule::kind_fits(kind) {
         return refused(2);
     }
-    if 6 < kind {
-        return refused(2);
-    }
-    if n < 1 {
-        return refused(3);
-    }
-    if 8 < n {
+    if !schedule::count_fits(n) {
         return refused(3);
     }
     if block.len() != 640 {

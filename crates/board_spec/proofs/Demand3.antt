@@ -9,11 +9,10 @@ use native.Mathlib.Nat.{sub-zero}
 use lib.ListN.{length}
 use borrow.Author.Tests.{eq-eqb}
 use Rattle.buf.specs.Bytes.{part, splice, u64At}
-use Rattle.block.specs.Alike.{Alike}
-use Rattle.block.proofs.AlikeLaws.{view-alike}
 use Rattle.records.specs.Record.{publicBytes, sealedAt, sealedOf}
 use Rattle.records.specs.Demand2.{rustSealed, cleanRequest}
 use Rattle.records.proofs.Demand2.{demand-2}
+use Rattle.records.proofs.RecordLaws.{sealed-alike}
 use Rattle.schedule.specs.Spans.{spanOf}
 use Rattle.schedule.specs.Schedule.{Held, Queue, Schedule, Call, Submit, Turn, Look, Event, refused, accepted, served, looked, Verdict, accept, refuse, verdict, put, entered, submitted, acts, judged, happens, events, afterAll, fresh}
 use Rattle.schedule.specs.History.{times, queuesServed, allAsAccepted, acceptedIn, handedIn, left, work, finished}
@@ -213,10 +212,6 @@ module _ (run : Calls) where
       }
 
 -- ---- two runs
-
-sealed-alike : (kind n : ℕ) (s t : Bytes) → Alike kind n s t → sealedOf kind n s ≡ sealedOf kind n t
-unfolding sealedOf
-sealed-alike kind n s t a = rw (view-alike kind n s t a)
 
 alike : (run run′ : Calls) → SealedAlike run run′
 unfolding SealedAlike

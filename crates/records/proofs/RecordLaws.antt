@@ -1,13 +1,17 @@
--- The record's bytes written number by number, and a whole answer. Assumes nothing.
+-- The record's bytes written number by number, and a whole answer; data that are alike have the same sealed bytes. Assumes nothing.
 use mathlib.Core.Path.{_≡_, refl, sym, ap, _∙_}
 use Prim.Native.Nat.{ℕ, zero, suc, _≤_}
+use mathlib.Core.Bool.{true}
 use mathlib.Core.List.{List}
 use lib.ListN.{length, length-append}
 use borrow.Author.Tests.{le-leb, eq-eqb}
 use Rattle.buf.specs.Bytes.{bytesOf, zeros, splice, putNum, putU64, putF64}
 use Rattle.buf.proofs.Laws.{splice-append, length-bytesOf, length-zeros}
+use Rattle.schedule.specs.Spans.{kindFits, countFits}
 use Rattle.block.specs.declared.types.Job.{Job}
 use Rattle.block.specs.View.{view}
+use Rattle.block.specs.Alike.{SameBytes, SameNumbers, Alike}
+use Rattle.block.proofs.AlikeLaws.{bytes-alike, numbers-alike}
 use Rattle.records.specs.declared.types.Outcome.{Outcome}
 use Rattle.records.specs.declared.types.Answered.the-variants.{Written}
 use Rattle.records.specs.Outcome.{outcomeOf}
@@ -42,8 +46,23 @@ pub record-written : (w w₁ w₂ : List ℕ) (ticket kind queue : ℕ) (o : Out
 unfolding recordBytes
 record-written w w₁ w₂ ticket kind queue o e₁ e₂ = rw (e₂, e₁) (sym (rw (splice-append, length-public)))
 
-pub answer-written : (kind n : ℕ) (s w w′ : List ℕ) (job : Job) (o : Outcome) → 1 ≤ kind → kind ≤ 6 → 1 ≤ n → n ≤ 8 → length s ≡ 640 → 64 ≤ length w
+pub answer-written : (kind n : ℕ) (s w w′ : List ℕ) (job : Job) (o : Outcome) → kindFits kind ≡ true → countFits n ≡ true → length s ≡ 640 → 64 ≤ length w
     → job ≡ view kind n s → o ≡ outcomeOf job → w′ ≡ splice w sealedAt (sealedBytes o) → (Written ≡ answered kind n s w .answer) × (w′ ≡ answered kind n s w .bytes)
 unfolding answered sealedOf
-answer-written kind n s w w′ job o k₁ k₆ n₁ n₈ l r ej eo ew =
-    simp (le-leb _ _ k₁, le-leb _ _ k₆, le-leb _ _ n₁, le-leb _ _ n₈, eq-eqb _ _ l, le-leb _ _ r) (refl, ew ∙ ap (λ (p : Outcome). splice w sealedAt (sealedBytes p)) (eo ∙ ap outcomeOf ej))
+answer-written kind n s w w′ job o k c l r ej eo ew =
+    simp (k, c, eq-eqb _ _ l, le-leb _ _ r) (refl, ew ∙ ap (λ (p : Outcome). splice w sealedAt (sealedBytes p)) (eo ∙ ap outcomeOf ej))
+
+-- ---- data that are alike
+
+-- "Data are alike where the blocks are, ignored or unread bytes aside": by what the job reads,
+pub sealed-alike : (kind n : ℕ) (s t : List ℕ) → Alike kind n s t → sealedOf kind n s ≡ sealedOf kind n t
+unfolding sealedOf
+sealed-alike kind n s t a = ap (λ (job : Job). sealedBytes (outcomeOf job)) a
+
+-- by the numbers, as far as they are read,
+pub sealed-same-numbers : (kind n : ℕ) (s t : List ℕ) → SameNumbers kind n s t → sealedOf kind n s ≡ sealedOf kind n t
+sealed-same-numbers kind n s t a = sealed-alike kind n s t (numbers-alike kind n s t a)
+
+-- and by the bytes where read
+pub sealed-same-bytes : (kind n : ℕ) (s t : List ℕ) → SameBytes kind n s t → sealedOf kind n s ≡ sealedOf kind n t
+sealed-same-bytes kind n s t a = sealed-alike kind n s t (bytes-alike kind n s t a)

@@ -1,9 +1,8 @@
--- A job of each kind ends within the kind's span; blocks that are alike have the same sealed bytes. Assumes nothing.
-use mathlib.Core.Path.{_≡_, ap}
+-- A job of each kind ends within the kind's span. Assumes nothing.
 use Prim.Native.Nat.{ℕ, _≤_}
 use native.Mathlib.Omega.{arith}
-use lib.Dec.{leb, eqb}
-use mathlib.Core.Bool.{Bool, true, false, cond, _&&_}
+use lib.Dec.{eqb}
+use mathlib.Core.Bool.{Bool, true, false, cond}
 use mathlib.Core.List.{List}
 use lib.ListN.{length}
 use lib.Ieee.{Float}
@@ -20,14 +19,10 @@ use Rattle.block.specs.declared.types.Task.{Task}
 use Rattle.block.specs.declared.types.Task.the-variants.{DensityIteration, DensityIterationStable, PressureSpinodal, PressureSpinodalBranch, CriticalPoint, Spinodal}
 use Rattle.block.specs.Pairs.{pairsFit}
 use Rattle.block.specs.Numbers.{numbersOf}
-use Rattle.block.specs.Blend.{blendOf}
-use Rattle.block.specs.Checks.{positive, componentsFit, interactionsFit, fractionsFit, conditionsFit, choiceFits}
-use Rattle.block.specs.View.{initialOf, branchOf, givenOf, taskOf, searched, refused, check, readyOf, checked, view}
-use Rattle.block.specs.Alike.{Alike}
-use Rattle.block.proofs.AlikeLaws.{view-alike}
+use Rattle.block.specs.Checks.{componentsFit, interactionsFit, fractionsFit, conditionsFit}
+use Rattle.block.specs.View.{initialOf, branchOf, givenOf, taskOf, refused, check, runBlend, runFits, checked, view}
 use Rattle.records.specs.Outcome.{Course, courseOf, refusedEnd, searchEnd, endOf, jobCourse, outcomeOf}
-use Rattle.records.specs.Record.{sealedBytes, sealedOf}
-use Rattle.schedule.specs.Spans.{spanOf}
+use Rattle.schedule.specs.Spans.{kindFits, countFits, spanOf}
 use Rattle.records.specs.Span.{CourseWithin, refused-within, search-within}
 
 -- `taskOf`, from the tests of the kind
@@ -59,21 +54,19 @@ check-within n true number next h = h
 check-within n false number next h = refused-within
 
 pub job-within : (kind n : ℕ) (s : List ℕ) → CourseWithin (spanOf kind) (jobCourse (view kind n s))
-unfolding view checked readyOf
+unfolding view checked
 job-within kind n s =
     let d = numbersOf kind n s in
-    let b = searched kind (d .conditions .choice) (blendOf n d) in
     let m = spanOf kind in
-    check-within m (leb 1 kind && leb kind 6) 2 _
-    (check-within m (leb 1 n && leb n 8) 3 _
+    check-within m (kindFits kind) 2 _
+    (check-within m (countFits n) 3 _
     (check-within m (eqb (length s) 640) 8 _
     (check-within m (pairsFit n s) 11 _
     (check-within m (componentsFit n (d .coefficients)) 12 _
     (check-within m (interactionsFit n (d .interactions)) 13 _
     (check-within m (fractionsFit n (d .fractions)) 14 _
     (check-within m (conditionsFit kind (d .conditions)) 15 _
-    (check-within m (choiceFits kind n (d .conditions .choice)) 16 _
-    (check-within m (positive (maxDensity b)) 16 _ (task-within (maxDensity b) kind (d .conditions)))))))))))
+    (check-within m (runFits kind n d) 16 _ (task-within (maxDensity (runBlend kind n d)) kind (d .conditions))))))))))
 
 end-most : (ev : Evaluator) {n : ℕ} {course : Course} → CourseWithin n course → endOf ev course .evaluations ≤ n
 unfolding endOf refusedEnd searchEnd
@@ -84,8 +77,3 @@ end-most ev (search-within w) = let h = run-most finiteOf ev 0 w in omega arith
 pub evaluations-most : (kind n : ℕ) (s : List ℕ) → outcomeOf (view kind n s) .evaluations ≤ spanOf kind
 unfolding outcomeOf
 evaluations-most kind n s = end-most (evaluated (view kind n s .blend)) (job-within kind n s)
-
--- "Data are alike where the blocks are, ignored or unread bytes aside"
-pub sealed-alike : (kind n : ℕ) (s t : List ℕ) → Alike kind n s t → sealedOf kind n s ≡ sealedOf kind n t
-unfolding sealedOf
-sealed-alike kind n s t a = ap (λ (job : Job). sealedBytes (outcomeOf job)) (view-alike kind n s t a)

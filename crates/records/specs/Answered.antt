@@ -1,10 +1,11 @@
 -- What `answer` says and writes, for any kind, N, block and buffer. Definitions only.
 use Prim.Native.Nat.{ℕ}
-use mathlib.Core.Bool.{Bool, cond, _&&_}
+use mathlib.Core.Bool.{Bool, cond}
 use mathlib.Core.List.{List}
 use lib.ListN.{length}
 use lib.Dec.{leb, eqb}
 use Rattle.buf.specs.Bytes.{splice}
+use Rattle.schedule.specs.Spans.{kindFits, countFits}
 use Rattle.records.specs.declared.types.Answered.{Answered}
 use Rattle.records.specs.declared.types.Answered.the-variants.{Written, BadKind, BadCount, BadBlockLength, ShortRecord}
 use Rattle.records.specs.Record.{sealedAt, sealedOf}
@@ -29,8 +30,8 @@ check buffer ok refusal next = cond ok next (record { answer = refusal; bytes = 
 -- 2, 3 and 8 in submit's order, then 5
 unfoldable pub answered : (kind n : ℕ) (block buffer : List ℕ) → Did
 answered kind n block buffer =
-    check buffer (leb 1 kind && leb kind 6) BadKind
-    (check buffer (leb 1 n && leb n 8) BadCount
+    check buffer (kindFits kind) BadKind
+    (check buffer (countFits n) BadCount
     (check buffer (eqb (length block) 640) BadBlockLength
     (check buffer (leb 64 (length buffer)) ShortRecord
     (record { answer = Written; bytes = splice buffer sealedAt (sealedOf kind n block) }))))

@@ -21,16 +21,10 @@ pub fn number(answered: Answered) -> u64
 pub fn answer(kind: u64, n: u64, block: &[u8], record: &mut [u8]) -> Answered
     ensures { λ r. ⌜ (r ≡ answered kind n (now (block .entry)) (now («record» .entry)) .answer) × (now («record» .exit) ≡ answered kind n (now (block .entry)) (now («record» .entry)) .bytes) ⌝ }
 {
-    if kind < 1 {
+    if !schedule::kind_fits(kind) {
         return Answered::BadKind;
     }
-    if 6 < kind {
-        return Answered::BadKind;
-    }
-    if n < 1 {
-        return Answered::BadCount;
-    }
-    if 8 < n {
+    if !schedule::count_fits(n) {
         return Answered::BadCount;
     }
     if block.len() != 640 {

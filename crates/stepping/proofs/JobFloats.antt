@@ -1,12 +1,12 @@
 -- The floats that a request's job works with, and those of each of its states, are values of binary64, whatever kind, N and block are. Assumes nothing.
 use Prim.Native.Nat.{ℕ, _+_}
-use mathlib.Core.Bool.{_&&_}
 use mathlib.Core.List.{List}
 use lib.ListN.{length}
-use lib.Dec.{leb, eqb}
+use lib.Dec.{eqb}
 use lib.Ieee.{Float, binary64}
 use lib.Ieee.Fits.{div-fits}
 use Rattle.buf.proofs.Floats.{f64-fits}
+use Rattle.schedule.specs.Spans.{kindFits, countFits}
 use Rattle.eos.specs.declared.types.Blend.{Blend}
 use Rattle.eos.specs.Cubic.{maxDensity}
 use Rattle.solver.specs.declared.types.DensityInitialization.{DensityInitialization}
@@ -25,8 +25,8 @@ use Rattle.block.specs.declared.types.Job.{Job}
 use Rattle.block.specs.Pairs.{pairsFit, offsetOf, conditions}
 use Rattle.block.specs.Numbers.{usesPressure, usesStart, choiceOf, pressureOf, conditionsOf, numbersOf}
 use Rattle.block.specs.Numbers as Read
-use Rattle.block.specs.Checks.{positive, plusZero, componentsFit, interactionsFit, fractionsFit, conditionsFit, choiceFits}
-use Rattle.block.specs.View.{initialOf, givenOf, taskOf, refused, readyOf, checked, view}
+use Rattle.block.specs.Checks.{plusZero, componentsFit, interactionsFit, fractionsFit, conditionsFit}
+use Rattle.block.specs.View.{initialOf, givenOf, taskOf, refused, runFits, checked, view}
 use Rattle.stepping.specs.declared.types.Work.the-variants as Work
 use Rattle.stepping.specs.Stepping.{workOf, refusedState, startBy, startOf, uncounted, stepBy, stepOf}
 use Rattle.stepping.specs.Storable.{FloatsStorable}
@@ -85,10 +85,6 @@ task-fits kind c g =
 abbrev JobFits : Job → Type 0
 JobFits job = TaskFits (job .task)
 
-ready-fits : (task : Task) (blend : Blend) → TaskFits task → JobFits (readyOf task blend)
-unfolding readyOf refused
-ready-fits task blend h = cond-keeps JobFits (positive (maxDensity blend)) _ _ h tt
-
 checked-fits : (kind n : ℕ) (d : Numbers) → Given (d .conditions) → JobFits (checked kind n d)
 unfolding checked refused
 checked-fits kind n d g =
@@ -96,14 +92,14 @@ checked-fits kind n d g =
     (cond-keeps JobFits (interactionsFit n (d .interactions)) _ _
     (cond-keeps JobFits (fractionsFit n (d .fractions)) _ _
     (cond-keeps JobFits (conditionsFit kind (d .conditions)) _ _
-    (cond-keeps JobFits (choiceFits kind n (d .conditions .choice)) _ _ (ready-fits _ _ (task-fits kind (d .conditions) g)) tt) tt) tt) tt) tt
+    (cond-keeps JobFits (runFits kind n d) _ _ (task-fits kind (d .conditions) g) tt) tt) tt) tt) tt
 
 -- a request is refused, or the floats of its task fit
 pub view-fits : (kind n : ℕ) (block : List ℕ) → TaskFits (view kind n block .task)
 unfolding view refused numbersOf
 view-fits kind n block =
-    cond-keeps JobFits (leb 1 kind && leb kind 6) _ _
-    (cond-keeps JobFits (leb 1 n && leb n 8) _ _
+    cond-keeps JobFits (kindFits kind) _ _
+    (cond-keeps JobFits (countFits n) _ _
     (cond-keeps JobFits (eqb (length block) 640) _ _
     (cond-keeps JobFits (pairsFit n block) _ _ (checked-fits kind n (numbersOf kind n block) (conditions-read kind block (offsetOf block conditions))) tt) tt) tt) tt
 

@@ -6,16 +6,14 @@ use mathlib.Core.List.{List}
 use lib.ListN.{length}
 use lib.Dec.{leb, eqb}
 use borrow.Author.Tests.{eq-eqb}
-use Rattle.eos.specs.Cubic.{maxDensity}
 use Rattle.block.specs.declared.types.Conditions.{Conditions}
 use Rattle.block.specs.declared.types.Job.{Job}
 use Rattle.block.specs.declared.types.Task.{Task}
 use Rattle.block.specs.declared.types.Task.the-variants.{Refused, DensityIteration, DensityIterationStable, PressureSpinodal, PressureSpinodalBranch, CriticalPoint, Spinodal}
 use Rattle.block.specs.Pairs.{pairsFit}
 use Rattle.block.specs.Numbers.{numbersOf}
-use Rattle.block.specs.Blend.{blendOf}
-use Rattle.block.specs.Checks.{positive, componentsFit, interactionsFit, fractionsFit, conditionsFit, choiceFits}
-use Rattle.block.specs.View.{taskOf, searched, refused, check, readyOf, checked, view}
+use Rattle.block.specs.Checks.{componentsFit, interactionsFit, fractionsFit, conditionsFit}
+use Rattle.block.specs.View.{taskOf, refused, check, runFits, checked, view}
 use Rattle.records.proofs.SpanLaws.{byKind}
 use Rattle.stepping.specs.States.{Request}
 
@@ -47,15 +45,13 @@ check-by-data true number next m h = h
 check-by-data false number next m h = m
 
 pub refused-by-data : (kind n : ℕ) (block : List ℕ) → Request kind n block → byData (view kind n block .task) ≡ true
-unfolding view checked readyOf
+unfolding view checked
 refused-by-data kind n block r =
     let d = numbersOf kind n block in
-    let b = searched kind (d .conditions .choice) (blendOf n d) in
     rw (r .kind-fits, r .count-fits, eq-eqb (length block) 640 (r .block-fits))
     (check-by-data (pairsFit n block) 11 _ refl
     (check-by-data (componentsFit n (d .coefficients)) 12 _ refl
     (check-by-data (interactionsFit n (d .interactions)) 13 _ refl
     (check-by-data (fractionsFit n (d .fractions)) 14 _ refl
     (check-by-data (conditionsFit kind (d .conditions)) 15 _ refl
-    (check-by-data (choiceFits kind n (d .conditions .choice)) 16 _ refl
-    (check-by-data (positive (maxDensity b)) 16 _ refl (task-searches kind (d .conditions)))))))))
+    (check-by-data (runFits kind n d) 16 _ refl (task-searches kind (d .conditions))))))))

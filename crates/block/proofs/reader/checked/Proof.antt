@@ -1,7 +1,7 @@
 -- `block::reader::checked` meets its contract. Assumes nothing.
 use borrow.Author.Needs.{needs}
 use borrow.Author.Tests.{not-false, not-true}
-use Rattle.block.specs.View.{checked}
+use Rattle.block.specs.View.{runFits, checked}
 use Rattle.block.proofs.reader.checked.Statement.{statement}
 use Rattle.block.proofs.reader.checked.Tie as tie
 
@@ -52,7 +52,7 @@ refused-requires-5 : tie.Need-refused-requires-5
 refused-requires-5 c κs = search needs
 
 returns-5 : tie.Need-returns-5
-unfolding checked
+unfolding checked runFits
 returns-5 c = simp (← c .before .before .before .before .before .before .before .before .before .before .before .before .before .components-fit .ensures, not-false (c .before .before .before .before .before .before .before .before .before .before .before .before .before .components-fit .result) (c .before .before .before .before .before .before .before .before .before .before .before .before .if1 .left), ← c .before .before .before .before .before .before .before .before .before .before .interactions-fit .ensures, not-false (c .before .before .before .before .before .before .before .before .before .before .interactions-fit .result) (c .before .before .before .before .before .before .before .before .before .if2 .left), ← c .before .before .before .before .before .before .before .fractions-fit .ensures, not-false (c .before .before .before .before .before .before .before .fractions-fit .result) (c .before .before .before .before .before .before .if3 .left), ← c .before .before .before .before .conditions-fit .ensures, not-false (c .before .before .before .before .conditions-fit .result) (c .before .before .before .if4 .left), ← c .before .before .choice-fits .ensures, not-true (c .before .before .choice-fits .result) (c .before .if5 .taken), ← c .refused5 .ensures)
 
 blend-requires : tie.Need-blend-requires
@@ -68,7 +68,7 @@ ready-requires : tie.Need-ready-requires
 ready-requires c κs = search needs
 
 returns-6 : tie.Need-returns-6
-unfolding checked
+unfolding checked runFits
 returns-6 c = simp (← c .before .before .before .before .before .before .before .before .before .before .before .before .before .before .before .before .components-fit .ensures, not-false (c .before .before .before .before .before .before .before .before .before .before .before .before .before .before .before .before .components-fit .result) (c .before .before .before .before .before .before .before .before .before .before .before .before .before .before .before .if1 .left), ← c .before .before .before .before .before .before .before .before .before .before .before .before .before .interactions-fit .ensures, not-false (c .before .before .before .before .before .before .before .before .before .before .before .before .before .interactions-fit .result) (c .before .before .before .before .before .before .before .before .before .before .before .before .if2 .left), ← c .before .before .before .before .before .before .before .before .before .before .fractions-fit .ensures, not-false (c .before .before .before .before .before .before .before .before .before .before .fractions-fit .result) (c .before .before .before .before .before .before .before .before .before .if3 .left), ← c .before .before .before .before .before .before .before .conditions-fit .ensures, not-false (c .before .before .before .before .before .before .before .conditions-fit .result) (c .before .before .before .before .before .before .if4 .left), ← c .before .before .before .before .before .choice-fits .ensures, not-false (c .before .before .before .before .before .choice-fits .result) (c .before .before .before .before .if5 .left), ← c .before .before .before .blend .ensures, ← c .before .before .task .ensures, ← c .before .searched .ensures, ← c .ready .ensures)
 
 pub checked-spec : {M : Type 1} → statement M

@@ -1,7 +1,6 @@
 -- `block::reader::ready` meets its contract. Assumes nothing.
 use borrow.Author.Needs.{needs}
 use borrow.Author.Tests.{not-false, not-true}
-use Rattle.block.specs.View.{readyOf}
 use Rattle.block.proofs.reader.ready.Statement.{statement}
 use Rattle.block.proofs.reader.ready.Tie as tie
 
@@ -15,11 +14,9 @@ refused-requires : tie.Need-refused-requires
 refused-requires c κs = search needs
 
 returns : tie.Need-returns
-unfolding readyOf
 returns c = simp (← c .before .before .before .compute-max-density .ensures, ← c .before .before .positive .ensures, not-true (c .before .before .positive .result) (c .before .if1 .taken), ← c .refused .ensures)
 
 returns-2 : tie.Need-returns-2
-unfolding readyOf
 returns-2 c = simp (← c .before .before .compute-max-density .ensures, ← c .before .positive .ensures, not-false (c .before .positive .result) (c .if1 .left))
 
 pub ready-spec : {M : Type 1} → statement M
