@@ -1,23 +1,21 @@
 -- The three forms of `specs/Alike.antt`: the same bytes where read are the same numbers, and these the same job. Assumes nothing.
-use mathlib.Core.Path.{_≡_, refl, sym, ap, subst, _∙_}
+use mathlib.Core.Path.{_≡_, refl, sym, ap, _∙_}
 use Prim.Native.Nat.{ℕ, _+_, _-_, _*_, _/_, _≤_}
 use native.Mathlib.Omega.{arith}
 use mathlib.Core.Bool.{Bool, true, false, cond}
 use mathlib.Core.List.{List}
 use lib.ListN.{length}
-use lib.Dec.{eqb, ltb}
-use lib.Ieee.{Float, binary64, ofBits}
+use lib.Dec.{ltb}
+use lib.Ieee.{binary64, ofBits}
 use borrow.Author.Tests.{le-leb, ltb-true}
 use Rattle.float.specs.Ops.{f0}
 use Rattle.buf.specs.Bytes.{part, numAt, u64At, f64At}
 use Rattle.buf.proofs.Laws.{numAt-part}
-use Rattle.schedule.specs.Spans.{kindFits, countFits}
-use Rattle.block.specs.declared.types.Conditions.{Conditions}
 use Rattle.block.specs.declared.types.Numbers.{Numbers}
 use Rattle.block.specs.declared.types.Job.{Job}
 use Rattle.block.specs.Pairs.{offsetOf, lengthOf, coefficients, interactions, fractions, conditions, lengthsFit, offsetsFit, pairsFit}
 use Rattle.block.specs.Numbers.{floatsAt, readsFractions, fractionCount, usesChoice, usesPressure, usesStart, choiceOf, pressureOf, startOf, conditionsOf, numbersOf}
-use Rattle.block.specs.View.{taskOf, refused, check, runBlend, checked, view}
+use Rattle.block.specs.View.{taskOf, check, runBlend, checked, view}
 use Rattle.block.specs.Alike.{SameRead, SameBytes, Stage, both-refused, both-pass, SameConditions, SameData, SameNumbers, Alike}
 use Rattle.block.proofs.Lists.{tabulate-same}
 
