@@ -81,7 +81,7 @@ module _ (ev : Evaluator) (s : State) where
   spinodals-apart maxdensity t (Spinodals.Ended a) = ended-apart
   spinodals-apart maxdensity t (Spinodals.At x) = refl
 
-step-apart : (job : Job) (ev : Evaluator) (s : State) → stepOf job ev s ≡ added s (stepOf job ev (uncounted s))
+pub step-apart : (job : Job) (ev : Evaluator) (s : State) → stepOf job ev s ≡ added s (stepOf job ev (uncounted s))
 unfolding stepOf
 step-apart (Density c) ev s = density-apart ev s c _
 step-apart (StableDensity maxdensity t p) ev s = stable-apart ev s maxdensity t p _
