@@ -25,11 +25,11 @@ use Rattle.block.specs.View.{view}
 use Rattle.schedule.proofs.Tests.{left-true, right-true}
 use Rattle.stepping.specs.declared.types.Work.{Work}
 use Rattle.stepping.specs.declared.types.Work.the-variants as Work
-use Rattle.stepping.specs.Stepping.{uncounted, stepBy, stepOf, atEnd, dataRefusal, stateFits}
+use Rattle.stepping.specs.Stepping.{workIn, uncounted, stepBy, stepOf, atEnd, dataRefusal, stateFits}
 use Rattle.stepping.specs.States.{wrapped}
 use Rattle.stepping.specs.Storable.{CountersStorable, Storable}
 use Rattle.stepping.proofs.JobFloats.{step-floats}
-use Rattle.stepping.proofs.Paths.{step-apart, workIn}
+use Rattle.stepping.proofs.Paths.{step-apart}
 
 -- ---- tests
 

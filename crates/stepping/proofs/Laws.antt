@@ -29,14 +29,14 @@ use Rattle.records.proofs.SpanLaws.{job-within}
 use Rattle.schedule.specs.Spans.{spanOf}
 use Rattle.stepping.specs.declared.types.Work.{Work}
 use Rattle.stepping.specs.declared.types.Work.the-variants as Work
-use Rattle.stepping.specs.Stepping.{workOf, refusedState, atEnd, dataRefusal, stateFits, resultOf}
+use Rattle.stepping.specs.Stepping.{workOf, workIn, refusedState, atEnd, dataRefusal, stateFits, resultOf}
 use Rattle.stepping.specs.States.{Request, stateAfter, outcomeAt, Sight, sightOf, sight}
 use Rattle.stepping.specs.Storable.{FloatsStorable, Storable}
 use Rattle.stepping.specs.Laws.{Stepping}
 use Rattle.stepping.proofs.JobFloats.{start-floats, step-floats}
 use Rattle.stepping.proofs.Ends.{ends}
 use Rattle.stepping.proofs.Sights.{seen, seen-settled, seen-least}
-use Rattle.stepping.proofs.Paths.{path, along, count-low, path-fits, path-again, states, workIn, job-states}
+use Rattle.stepping.proofs.Paths.{path, along, count-low, path-fits, path-again, states, job-states}
 use Rattle.stepping.proofs.Refusals.{byData, refused-by-data}
 use Rattle.stepping.proofs.Kept.{or-left, or-right, counters-stored}
 
