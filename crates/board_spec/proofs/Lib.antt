@@ -5,4 +5,5 @@ pub mod Queue
 pub mod Sim
 pub mod Stored
 pub mod Runs
+pub mod Fits
 pub mod Demand3

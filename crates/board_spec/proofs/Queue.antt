@@ -240,7 +240,7 @@ pub record Turns (queue c : ℕ) (js : List (Held Bytes)) (q buffer : Bytes) : T
   pub reply : record { answer = Turned (turnQuarter queue q buffer .answer); buffer = turnQuarter queue q buffer .buffer } ≡ turnReply buffer queue (undergo js .out)
   pub rep : RepQueue c (undergo js .jobs) (turnQuarter queue q buffer .quarter)
 
-turn-idle : (queue : ℕ) (q buffer : Bytes) → eqb (u64At q heldAt) 0 ≡ true → turnQuarter queue q buffer ≡ record { answer = 0; quarter = q; buffer = buffer }
+pub turn-idle : (queue : ℕ) (q buffer : Bytes) → eqb (u64At q heldAt) 0 ≡ true → turnQuarter queue q buffer ≡ record { answer = 0; quarter = q; buffer = buffer }
 unfolding turnQuarter
 turn-idle queue q buffer e = rw e
 

@@ -1,13 +1,13 @@
 -- A turn goes on from the numbers that the quarter stores and a look reads them, on any board that passes 6. Assumes nothing.
-use mathlib.Core.Path.{_≡_, refl, sym, ap, _∙_, subst}
-use Prim.Native.Nat.{ℕ, _+_, _*_, _^_, _≤_, _<_}
+use mathlib.Core.Path.{_≡_, refl, ap, _∙_}
+use Prim.Native.Nat.{ℕ, _+_, _≤_, _<_}
 use mathlib.Core.Bool.{Bool, true, false}
 use mathlib.Core.List.{[]}
 use native.Mathlib.Omega.{arith}
 use lib.ListN.{length}
 use lib.Dec.{eqb}
 use borrow.Author.Tests.{le-leb, eq-eqb, ne-eqb, eqb-true, eqb-false}
-use Rattle.buf.specs.Bytes.{part, u64At, putU64}
+use Rattle.buf.specs.Bytes.{part, u64At}
 use Rattle.buf.proofs.Laws.{length-part, numAt-lt}
 use Rattle.buf.proofs.Floats.{f64-fits}
 use Rattle.float.specs.Sign.{finiteOf}
@@ -28,14 +28,14 @@ use Rattle.stepping.specs.States.{Request, stateAfter, outcomeAt, wrapped}
 use Rattle.stepping.specs.Storable.{Storable}
 use Rattle.stepping.proofs.Laws.{stepping}
 use Rattle.stepping.proofs.Kept.{fits-kept, stored-kept, work-next}
-use Rattle.board_spec.specs.Layout.{quarterLength, turnAt, acceptedAt, heldAt, turnsAt, countAt, blockAt}
-use Rattle.board_spec.specs.Quarter.{loadCounters, loadValues, loadState, firstTicket, slotOf, firstSlot, firstKind, firstJob, slotFits, stateOf, steppedOf, keptQuarter, DidQuarter, turnQuarter}
+use Rattle.board_spec.specs.Layout.{quarterLength, acceptedAt, heldAt, turnsAt, countAt, blockAt}
+use Rattle.board_spec.specs.Quarter.{loadCounters, loadValues, loadState, firstTicket, firstSlot, firstKind, firstJob, slotFits, stateOf, steppedOf, keptQuarter, DidQuarter, turnQuarter}
 use Rattle.board_spec.specs.Board.{quarterOf, withQuarter, boardFits, Shown, Did, turnDid, turnJudged, turnBoard, lookJudged, lookBoard}
 use Rattle.board_spec.specs.Run.{Bytes}
 use Rattle.board_spec.specs.Stored.{stored, jobIn, turnsIn, Last, Serves, Steps, Hands, StoredOnly}
 use Rattle.board_spec.proofs.Bytes.{SameSlot, slot-tail}
 use Rattle.board_spec.proofs.Quarters.{slot-low, Kept, kept}
-use Rattle.board_spec.proofs.Tested.{slots-at, UnderWay, Tested, quarter-tested, TestedBoard, board-tested}
+use Rattle.board_spec.proofs.Tested.{slots-at, Tested, quarter-tested, TestedBoard, board-tested}
 use Rattle.board_spec.proofs.Queue.{job-same, turn-out, turn-on}
 use Rattle.board_spec.proofs.Sim.{length-quarter, quarter-turn, quarter-same}
 
