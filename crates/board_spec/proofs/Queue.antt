@@ -7,10 +7,9 @@ use mathlib.Core.Option.{none}
 use native.Mathlib.Omega.{arith}
 use native.Mathlib.Numerals.{add-one}
 use lib.ListN.{length, length-append}
-use lib.Dec.{leb, eqb}
-use borrow.Author.Tests.{le-leb, leb-true, lt-ltb, eq-eqb, ne-eqb, eqb-true, eqb-false}
-use Rattle.buf.specs.Bytes.{part, splice, numAt, u64At, putU64}
-use Rattle.buf.proofs.Laws.{length-putNum, get-put-same, get-put-before, get-put-after}
+use lib.Dec.{eqb}
+use borrow.Author.Tests.{eq-eqb, ne-eqb, eqb-true, eqb-false}
+use Rattle.buf.specs.Bytes.{part, splice, u64At, putU64}
 use Rattle.block.specs.declared.types.Job.{Job}
 use Rattle.block.specs.View.{view}
 use Rattle.records.specs.Record.{recordBytes, sealedBytes, sealedOf}
@@ -19,16 +18,18 @@ use Rattle.schedule.specs.Schedule.{Held, turnsOf, Undergone, turned, undergo}
 use Rattle.schedule.proofs.OnTime.{leaves, stays}
 use Rattle.solver_state.specs.declared.types.State.{State}
 use Rattle.stepping.specs.Stepping.{startOf, stepOf, stateFits}
-use Rattle.board_spec.specs.Layout.{quarterLength, acceptedAt, heldAt, turnsAt, kindAt, countAt}
+use Rattle.board_spec.specs.Layout.{acceptedAt, heldAt, turnsAt, kindAt, countAt}
 use Rattle.stepping.specs.States.{Request, stateAfter, outcomeAt}
 use Rattle.stepping.specs.Storable.{Storable}
 use Rattle.stepping.proofs.Laws.{stepping}
-use Rattle.board_spec.specs.Quarter.{loadCounters, loadValues, loadState, storeCounters, storeValues, storeState, firstTicket, slotOf, firstSlot, firstKind, firstJob, slotFits, slotsFit, runningFits, quarterFits, putJob, submitQuarter, stateOf, steppedOf, keptQuarter, freedQuarter, DidQuarter, turnQuarter}
+use Rattle.board_spec.specs.Quarter.{loadState, storeState, firstTicket, slotOf, firstSlot, firstKind, firstJob, slotFits, slotsFit, quarterFits, submitQuarter, stateOf, steppedOf, keptQuarter, freedQuarter, DidQuarter, turnQuarter}
 use Rattle.board_spec.specs.Board.{Turned}
 use Rattle.board_spec.specs.Run.{Bytes, recordOf, turnReply}
 use Rattle.board_spec.specs.Rep.{InSlot, Stands, no-more, stands, Waiting, nobody, waits, Running, idle, runs, RepQueue}
-use Rattle.board_spec.proofs.Bytes.{length-state, state-back, num-head, state-head, SameSlot, slot-tail, tail-put, tail-state, length-job, head-job, kind-put, count-put, block-put, slot-other}
-use Rattle.schedule.proofs.Tests.{both, right-true, span-within}
+use Rattle.board_spec.proofs.Bytes.{SameSlot, slot-tail}
+use Rattle.board_spec.proofs.Tested.{UnderWay, tested-quarter}
+use Rattle.board_spec.proofs.Quarters.{slot-low, Added, added, kept, freed}
+use Rattle.schedule.proofs.Tests.{both, span-within}
 
 -- ---- numbers
 
@@ -41,24 +42,12 @@ slot-ticket t = omega arith
 ticket-next : (c : ℕ) → (c % 2 ^ 64 + 1) % 2 ^ 64 ≡ (c + 1) % 2 ^ 64
 ticket-next c = omega arith
 
-ticket-low : (x : ℕ) → x % 2 ^ 64 < 2 ^ 64
-ticket-low x = omega arith
-
-slot-low : (t : ℕ) → t % 8 < 8
-slot-low t = omega arith
-
 slot-next : (s t : ℕ) → s % 8 ≡ t % 8 → (s + 1) % 8 ≡ suc t % 8
 slot-next s t e = omega arith
 
 -- eight successive tickets have eight slots
 slots-apart : (t i l : ℕ) → i < l → l < 8 → (t + i) % 8 ≡ (t + l) % 8 → ⊥
 slots-apart t i l h k e = omega arith
-
-kind-low : (kind : ℕ) → kindFits kind ≡ true → kind < 2 ^ 64
-kind-low kind e = let h = leb-true kind 6 (right-true (leb 1 kind) (leb kind 6) e) in omega arith
-
-count-low : (n : ℕ) → countFits n ≡ true → n < 2 ^ 64
-count-low n e = let h = leb-true n 8 (right-true (leb 1 n) (leb n 8) e) in omega arith
 
 -- ---- slots
 
@@ -151,7 +140,7 @@ first-in c j js q r = subst (λ (s : ℕ). InSlot q s j) (sym (first-slot c (j �
 abbrev jobOf : Held Bytes → Job
 jobOf j = view (j .kind) (j .n) (j .block)
 
-job-same : (k k′ n n′ : ℕ) (b b′ : Bytes) → k ≡ k′ → n ≡ n′ → b ≡ b′ → view k n b ≡ view k′ n′ b′
+pub job-same : (k k′ n n′ : ℕ) (b b′ : Bytes) → k ≡ k′ → n ≡ n′ → b ≡ b′ → view k n b ≡ view k′ n′ b′
 job-same k k′ n n′ b b′ e f g = rw (e, f, g)
 
 first-job : (c : ℕ) (j : Held Bytes) (js : List (Held Bytes)) (q : Bytes) → RepQueue c (j ∷ js) q → firstJob q ≡ jobOf j
@@ -172,31 +161,27 @@ slots-fit {q} {t} (stands {j = j} {js = js} i ek rest) s e =
     let ns : countFits (u64At q (countAt (slotOf s))) ≡ true = ap (λ (x : ℕ). countFits (u64At q (countAt x))) e ∙ ap countFits (i .n) ∙ i .request .count-fits in
     both _ _ (both _ _ ks ns) (slots-fit rest (s + 1) (slot-next s t e))
 
-running-fits : (c : ℕ) (j : Held Bytes) (js : List (Held Bytes)) (q : Bytes) → RepQueue c (j ∷ js) q → 1 ≤ j .turns → runningFits q ≡ true
-unfolding runningFits
-running-fits c j js q r h =
-    let k : 1 ≤ u64At q heldAt = rw (r .held) (omega arith) in
-    let b : u64At q turnsAt < spanOf (firstKind q) = rw (turns-first c j js q r, first-in c j js q r .kind) (runs-below (r .running)) in
-    both _ _ (le-leb _ _ k) (both _ _ (lt-ltb _ _ b) (ap stateFits (runs-state (r .running) h) ∙ stepping .fits (j .kind) (j .n) (j .block) (first-in c j js q r .request) (j .turns)))
+first-under-way : (c : ℕ) (j : Held Bytes) (js : List (Held Bytes)) (q : Bytes) → RepQueue c (j ∷ js) q → 1 ≤ j .turns → UnderWay q
+first-under-way c j js q r h =
+    record {
+      held = rw (r .held) (omega arith);
+      below = rw (turns-first c j js q r, first-in c j js q r .kind) (runs-below (r .running));
+      state = ap stateFits (runs-state (r .running) h) ∙ stepping .fits (j .kind) (j .n) (j .block) (first-in c j js q r .request) (j .turns);
+    }
 
-turns-fit : (c : ℕ) (js : List (Held Bytes)) (q : Bytes) → RepQueue c js q → cond (eqb (u64At q turnsAt) 0) true (runningFits q) ≡ true
+running-tested : (c : ℕ) (js : List (Held Bytes)) (q : Bytes) → RepQueue c js q → 1 ≤ u64At q turnsAt → UnderWay q
 unfolding turnsOf
-turns-fit c [] q r = rw (r .turns)
-turns-fit c (j ∷ js) q r = go (eqb (u64At q turnsAt) 0) refl
-  where
-    go : (b : Bool) → eqb (u64At q turnsAt) 0 ≡ b → cond b true (runningFits q) ≡ true
-    go true e = refl
-    go false e =
-        let n = eqb-false (u64At q turnsAt) 0 e in
-        let t = turns-first c j js q r in
-        running-fits c j js q r (omega arith)
+running-tested c [] q r h = let t = r .turns in absurd (omega arith)
+running-tested c (j ∷ js) q r h = let t = turns-first c j js q r in first-under-way c j js q r (omega arith)
 
 pub quarter-fits : (c : ℕ) (js : List (Held Bytes)) (q : Bytes) → RepQueue c js q → quarterFits q ≡ true
-unfolding quarterFits
 quarter-fits c js q r =
-    let few : u64At q heldAt ≤ 8 = rw (r .held) (r .few) in
-    let slots : slotsFit q (firstTicket q) (u64At q heldAt) ≡ true = rw (r .held) (slots-fit (r .slots) (firstTicket q) (first-slot c js q r)) in
-    both _ _ (le-leb _ _ few) (both _ _ slots (turns-fit c js q r))
+    tested-quarter q
+    (record {
+      few = rw (r .held) (r .few);
+      slots = rw (r .held) (slots-fit (r .slots) (firstTicket q) (first-slot c js q r));
+      running = running-tested c js q r;
+    })
 
 -- ---- a job is added
 
@@ -204,66 +189,25 @@ module _ (c : ℕ) (js : List (Held Bytes)) (q : Bytes) (r : RepQueue c js q) (k
   abbrev new : Held Bytes
   new = record { kind = kind; n = n; block = block; ticket = c % 2 ^ 64; turns = 0 }
 
-  abbrev slot : ℕ
-  slot = slotOf (u64At q acceptedAt)
-
-  abbrev put-in : Bytes
-  put-in = putJob q slot kind n block
-
-  abbrev counted : Bytes
-  counted = putU64 put-in acceptedAt ((u64At q acceptedAt + 1) % 2 ^ 64)
-
   abbrev filled : Bytes
-  filled = putU64 counted heldAt (u64At q heldAt + 1)
+  filled = submitQuarter q kind n block
 
-  slot-is : slot ≡ slotOf c
+  reads : Added filled q kind n block
+  reads = added q (r .len) kind n block ok (let h = r .held in omega arith)
+
+  slot-is : slotOf (u64At q acceptedAt) ≡ slotOf c
   slot-is = ap slotOf (r .accepted) ∙ slot-ticket c
-
-  slot-fits : slot < 8
-  slot-fits = slot-low (u64At q acceptedAt)
-
-  length-put : length put-in ≡ quarterLength
-  length-put = length-job q slot kind n block ∙ r .len
-
-  length-counted : length counted ≡ quarterLength
-  length-counted = length-putNum 8 put-in acceptedAt _ ∙ length-put
-
-  -- the slots are those after the job is put in
-  tail-filled : part filled 128 6016 ≡ part put-in 128 6016
-  tail-filled = tail-put counted heldAt _ refl ∙ tail-put put-in acceptedAt _ refl
-
-  state-filled : loadState filled ≡ loadState q
-  unfolding loadState loadCounters loadValues
-  state-filled = simp get-put-after (state-head put-in q (head-job q slot kind n block))
-
-  turns-filled : u64At filled turnsAt ≡ u64At q turnsAt
-  turns-filled =
-      get-put-after 8 8 counted heldAt _ turnsAt refl ∙ get-put-after 8 8 put-in acceptedAt _ turnsAt refl ∙ num-head put-in q (head-job q slot kind n block) turnsAt refl
-
-  new-in : InSlot put-in slot new
-  new-in =
-      record {
-        kind = kind-put q slot kind n block (r .len) slot-fits (kind-low kind (ok .kind-fits));
-        n = count-put q slot kind n block (r .len) slot-fits (count-low n (ok .count-fits));
-        block = block-put q slot kind n block (r .len) slot-fits (ok .block-fits);
-        request = ok;
-      }
 
   last : (c - length js) + length js ≡ c
   last = let e = r .enough in omega arith
 
   old-slots : (i : ℕ) → i < length js → SameSlot filled q (slotOf (c - length js + i))
   old-slots i h =
-      let s = slotOf (c - length js + i) in
-      let apart : s ≡ slot → ⊥ = λ e. slots-apart (c - length js) i (length js) h room (e ∙ slot-is ∙ ap slotOf (sym last)) in
-      let a = slot-tail filled put-in tail-filled s (slot-low (c - length js + i)) in
-      let b = slot-other q slot kind n block (ok .block-fits) slot-fits s (slot-low (c - length js + i)) apart in
-      record { kind = a .kind ∙ b .kind; n = a .n ∙ b .n; block = a .block ∙ b .block }
+      reads .others (slotOf (c - length js + i)) (slot-low (c - length js + i)) (λ e. slots-apart (c - length js) i (length js) h room (e ∙ slot-is ∙ ap slotOf (sym last)))
 
   new-slot : InSlot filled (slotOf (c - length js + length js)) new
   new-slot =
-      let a = slot-kept filled put-in slot new (slot-tail filled put-in tail-filled slot slot-fits) new-in in
-      subst (λ (s : ℕ). InSlot filled s new) (slot-is ∙ ap slotOf (sym last)) a
+      subst (λ (s : ℕ). InSlot filled s new) (slot-is ∙ ap slotOf (sym last)) (record { kind = reads .new-kind; n = reads .new-n; block = reads .new-block; request = ok })
 
   slots-filled : Stands filled (c - length js) (js ++ (new ∷ []))
   slots-filled =
@@ -276,23 +220,17 @@ module _ (c : ℕ) (js : List (Held Bytes)) (q : Bytes) (r : RepQueue c js q) (k
   from = rw length-more (omega arith)
 
   pub submit-rep : RepQueue (c + 1) (js ++ (new ∷ [])) (submitQuarter q kind n block)
-  unfolding submitQuarter
   submit-rep =
-      let hl = r .held in
-      let small : u64At q heldAt + 1 < 2 ^ 64 = omega arith in
       let e = r .enough in
       record {
-        len = length-putNum 8 counted heldAt _ ∙ length-counted;
-        accepted =
-            get-put-before 8 8 counted heldAt _ acceptedAt refl
-            ∙ get-put-same 8 put-in acceptedAt _ (le-leb (acceptedAt + 8) (length put-in) (rw length-put (omega arith))) (ticket-low (u64At q acceptedAt + 1))
-            ∙ ap (λ (x : ℕ). (x + 1) % 2 ^ 64) (r .accepted) ∙ ticket-next c;
-        held = get-put-same 8 counted heldAt _ (le-leb (heldAt + 8) (length counted) (rw length-counted (omega arith))) small ∙ ap (λ (x : ℕ). x + 1) (r .held) ∙ sym length-more;
+        len = reads .len;
+        accepted = reads .accepted ∙ ap (λ (x : ℕ). (x + 1) % 2 ^ 64) (r .accepted) ∙ ticket-next c;
+        held = reads .held ∙ ap (λ (x : ℕ). x + 1) (r .held) ∙ sym length-more;
         few = rw length-more (omega arith);
         enough = rw length-more (omega arith);
-        turns = turns-filled ∙ r .turns ∙ sym (turns-more js new refl);
+        turns = reads .turns ∙ r .turns ∙ sym (turns-more js new refl);
         slots = stands-at ((c + 1) - length (js ++ (new ∷ []))) from slots-filled;
-        running = running-more filled q js new refl state-filled (r .running);
+        running = running-more filled q js new refl (reads .state) (r .running);
       }
 
 -- ---- a turn
@@ -302,16 +240,16 @@ pub record Turns (queue c : ℕ) (js : List (Held Bytes)) (q buffer : Bytes) : T
   pub reply : record { answer = Turned (turnQuarter queue q buffer .answer); buffer = turnQuarter queue q buffer .buffer } ≡ turnReply buffer queue (undergo js .out)
   pub rep : RepQueue c (undergo js .jobs) (turnQuarter queue q buffer .quarter)
 
-turn-idle : (queue : ℕ) (q buffer : Bytes) → eqb (u64At q heldAt) 0 ≡ true → turnQuarter queue q buffer ≡ record { answer = 0; quarter = q; buffer = buffer }
+pub turn-idle : (queue : ℕ) (q buffer : Bytes) → eqb (u64At q heldAt) 0 ≡ true → turnQuarter queue q buffer ≡ record { answer = 0; quarter = q; buffer = buffer }
 unfolding turnQuarter
 turn-idle queue q buffer e = rw e
 
-turn-out : (queue : ℕ) (q buffer : Bytes) → eqb (u64At q heldAt) 0 ≡ false → eqb (u64At q turnsAt + 1) (spanOf (firstKind q)) ≡ true
+pub turn-out : (queue : ℕ) (q buffer : Bytes) → eqb (u64At q heldAt) 0 ≡ false → eqb (u64At q turnsAt + 1) (spanOf (firstKind q)) ≡ true
     → turnQuarter queue q buffer ≡ record { answer = 1; quarter = freedQuarter q; buffer = splice buffer 0 (recordBytes (firstTicket q) (firstKind q) queue (outcomeAt (steppedOf q))) }
 unfolding turnQuarter
 turn-out queue q buffer e f = rw (e, f)
 
-turn-on : (queue : ℕ) (q buffer : Bytes) → eqb (u64At q heldAt) 0 ≡ false → eqb (u64At q turnsAt + 1) (spanOf (firstKind q)) ≡ false
+pub turn-on : (queue : ℕ) (q buffer : Bytes) → eqb (u64At q heldAt) 0 ≡ false → eqb (u64At q turnsAt + 1) (spanOf (firstKind q)) ≡ false
     → turnQuarter queue q buffer ≡ record { answer = 0; quarter = keptQuarter q; buffer = buffer }
 unfolding turnQuarter
 turn-on queue q buffer e f = rw (e, f)
@@ -319,6 +257,11 @@ turn-on queue q buffer e f = rw (e, f)
 turns-by : (queue c : ℕ) (js : List (Held Bytes)) (q buffer : Bytes) (d : DidQuarter) (u : Undergone Bytes) → turnQuarter queue q buffer ≡ d → undergo js ≡ u
     → record { answer = Turned (d .answer); buffer = d .buffer } ≡ turnReply buffer queue (u .out) → RepQueue c (u .jobs) (d .quarter) → Turns queue c js q buffer
 turns-by queue c js q buffer d u ed eu reply rep = record { reply = rw (ed, eu) reply; rep = rw (ed, eu) rep }
+
+-- by a test
+by-test : {A : Type 0} (b : Bool) (x y z : A) → (b ≡ true → x ≡ z) → (b ≡ false → y ≡ z) → cond b x y ≡ z
+by-test true x y z f g = f refl
+by-test false x y z f g = g refl
 
 state-start : (job : Job) (k : ℕ) → k ≡ 0 → startOf job ≡ stateAfter job k
 unfolding stateAfter
@@ -335,14 +278,12 @@ turned-stands (stands i e rest) = stands (record { kind = i .kind; n = i .n; blo
 module _ (c : ℕ) (j : Held Bytes) (js : List (Held Bytes)) (q : Bytes) (r : RepQueue c (j ∷ js) q) where
   state-of : stateOf q ≡ stateAfter (jobOf j) (j .turns)
   unfolding stateOf
-  state-of = go (eqb (u64At q turnsAt) 0) refl
-    where
-      go : (b : Bool) → eqb (u64At q turnsAt) 0 ≡ b → cond b (startOf (firstJob q)) (loadState q) ≡ stateAfter (jobOf j) (j .turns)
-      go true e = ap startOf (first-job c j js q r) ∙ state-start (jobOf j) (j .turns) (sym (turns-first c j js q r) ∙ eqb-true (u64At q turnsAt) 0 e)
-      go false e =
-          let n = eqb-false (u64At q turnsAt) 0 e in
-          let t = turns-first c j js q r in
-          runs-state (r .running) (omega arith)
+  state-of =
+      let job : firstJob q ≡ jobOf j = first-job c j js q r in
+      let turns : u64At q turnsAt ≡ j .turns = turns-first c j js q r in
+      by-test (eqb (u64At q turnsAt) 0) _ _ _
+      (λ e. ap startOf job ∙ state-start (jobOf j) (j .turns) (sym turns ∙ eqb-true (u64At q turnsAt) 0 e))
+      (λ e. (let n = eqb-false (u64At q turnsAt) 0 e in let s = runs-state (r .running) (omega arith) in cc))
 
   stepped-is : steppedOf q ≡ stateAfter (jobOf j) (j .turns + 1)
   unfolding steppedOf
@@ -370,32 +311,25 @@ module _ (c : ℕ) (j : Held Bytes) (js : List (Held Bytes)) (q : Bytes) (r : Re
 
   -- ---- the job leaves
   freed-rep : RepQueue c js (freedQuarter q)
-  unfolding freedQuarter
   freed-rep =
       let hl : u64At q heldAt ≡ suc (length js) = r .held in
       let f = r .few in
       let e = r .enough in
-      let small : u64At q heldAt - 1 < 2 ^ 64 = omega arith in
+      let w = freed q (r .len) in
       let less : u64At q heldAt - 1 ≡ length js = omega arith in
-      let q₁ = putU64 q heldAt (u64At q heldAt - 1) in
-      let l₁ : length q₁ ≡ quarterLength = length-putNum 8 q heldAt _ ∙ r .len in
       let from : suc (c - suc (length js)) ≡ c - length js = omega arith in
       record {
-        len = length-putNum 8 q₁ turnsAt 0 ∙ l₁;
-        accepted = get-put-before 8 8 q₁ turnsAt 0 acceptedAt refl ∙ get-put-before 8 8 q heldAt _ acceptedAt refl ∙ r .accepted;
-        held = get-put-before 8 8 q₁ turnsAt 0 heldAt refl ∙ get-put-same 8 q heldAt _ (le-leb (heldAt + 8) (length q) (rw (r .len) (omega arith))) small ∙ less;
+        len = w .len;
+        accepted = w .accepted ∙ r .accepted;
+        held = w .held ∙ less;
         few = omega arith;
         enough = omega arith;
-        turns = get-put-same 8 q₁ turnsAt 0 (le-leb (turnsAt + 8) (length q₁) (rw l₁ (omega arith))) (omega arith) ∙ sym (waiting-turns (runs-waiting (r .running)));
-        slots = stands-tail (putU64 q₁ turnsAt 0) q (c - length js) js (tail-put q₁ turnsAt 0 refl ∙ tail-put q heldAt _ refl) (stands-at (c - length js) from (stands-rest (r .slots)));
-        running = waiting-runs (putU64 q₁ turnsAt 0) (runs-waiting (r .running));
+        turns = w .turns ∙ sym (waiting-turns (runs-waiting (r .running)));
+        slots = stands-tail (freedQuarter q) q (c - length js) js (w .slots) (stands-at (c - length js) from (stands-rest (r .slots)));
+        running = waiting-runs (freedQuarter q) (runs-waiting (r .running));
       }
 
   -- ---- the job stays
-  head-state : (p : Bytes) (s : State) → (numAt 8 (storeState p s) 0 ≡ numAt 8 p 0) × (numAt 8 (storeState p s) 8 ≡ numAt 8 p 8) × (numAt 8 (storeState p s) 16 ≡ numAt 8 p 16)
-  unfolding storeState storeValues storeCounters
-  head-state p s = (simp get-put-before, simp get-put-before, simp get-put-before)
-
   kept-rep : (j .turns + 1 ≡ spanOf (j .kind) → ⊥) → RepQueue c (turned j ∷ js) (keptQuarter q)
   unfolding keptQuarter turned turnsOf
   kept-rep n =
@@ -403,20 +337,17 @@ module _ (c : ℕ) (j : Held Bytes) (js : List (Held Bytes)) (q : Bytes) (r : Re
       let b = runs-below (r .running) in
       let sl = span-within (j .kind) in
       let below : j .turns + 1 < spanOf (j .kind) = omega arith in
-      let small : u64At q turnsAt + 1 < 2 ^ 64 = omega arith in
-      let q₁ = putU64 q turnsAt (u64At q turnsAt + 1) in
-      let l₁ : length q₁ ≡ quarterLength = length-putNum 8 q turnsAt _ ∙ r .len in
-      let h = head-state q₁ (steppedOf q) in
       let st : Storable (steppedOf q) = rw stepped-is (stepping .stores (j .kind) (j .n) (j .block) request-of (j .turns + 1)) in
+      let w = kept q (r .len) (steppedOf q) (omega arith) st in
       record {
-        len = length-state q₁ (steppedOf q) ∙ l₁;
-        accepted = h .0 ∙ get-put-before 8 8 q turnsAt _ acceptedAt refl ∙ r .accepted;
-        held = h .1 ∙ get-put-before 8 8 q turnsAt _ heldAt refl ∙ r .held;
+        len = w .len;
+        accepted = w .accepted ∙ r .accepted;
+        held = w .held ∙ r .held;
         few = r .few;
         enough = r .enough;
-        turns = h .2 ∙ get-put-same 8 q turnsAt _ (le-leb (turnsAt + 8) (length q) (rw (r .len) (omega arith))) small ∙ ap (λ (x : ℕ). x + 1) t;
-        slots = turned-stands (stands-tail (storeState q₁ (steppedOf q)) q (c - suc (length js)) (j ∷ js) (tail-state q₁ (steppedOf q) ∙ tail-put q turnsAt _ refl) (r .slots));
-        running = runs below (λ x. state-back q₁ (steppedOf q) l₁ st ∙ stepped-is) (runs-waiting (r .running));
+        turns = w .turns ∙ ap (λ (x : ℕ). x + 1) t;
+        slots = turned-stands (stands-tail (storeState (putU64 q turnsAt (u64At q turnsAt + 1)) (steppedOf q)) q (c - suc (length js)) (j ∷ js) (w .slots) (r .slots));
+        running = runs below (λ x. w .state ∙ stepped-is) (runs-waiting (r .running));
       }
 
   pub turn-some : (queue : ℕ) (buffer : Bytes) (b : Bool) → eqb (j .turns + 1) (spanOf (j .kind)) ≡ b → Turns queue c (j ∷ js) q buffer

@@ -6,7 +6,7 @@ use mathlib.Core.List.{List, [], _∷_}
 use native.Mathlib.Omega.{arith}
 use lib.ListN.{length}
 use lib.Dec.{leb, ltb, eqb}
-use borrow.Author.Tests.{le-leb, leb-true, lt-ltb, ltb-true, ltb-false, eq-eqb, eqb-true, eqb-false}
+use borrow.Author.Tests.{le-leb, leb-true, ltb-true, ltb-false, eqb-true, eqb-false}
 use Rattle.buf.specs.Bytes.{part, splice, zeros, numAt, u64At, putU64}
 use Rattle.buf.proofs.Laws.{length-putNum, length-splice, length-part, length-zeros, get-put-same, part-put-before, part-splice-same, part-splice-before, part-splice-after, part-zeros, numAt-zeros}
 use Rattle.block.specs.View.{view}
@@ -17,20 +17,21 @@ use Rattle.solver_state.specs.declared.types.State.{State}
 use Rattle.board_spec.specs.Layout.{boardLength, quarterLength, turnAt, acceptedAt, heldAt, turnsAt}
 use Rattle.stepping.specs.States.{Request, Sight, stateAfter}
 use Rattle.stepping.proofs.Laws.{stepping}
-use Rattle.board_spec.specs.Quarter.{loadState, quarterFits, submitQuarter, DidQuarter, turnQuarter}
+use Rattle.board_spec.specs.Quarter.{loadState, submitQuarter, DidQuarter, turnQuarter}
 use Rattle.board_spec.specs.Board.{quarterOf, withQuarter, boardFits, Ticket, Shown, Did, refusedDid, submitJudged, submitBoard, turnDid, turnJudged, turnBoard, lookJudged, lookBoard}
 use Rattle.board_spec.specs.Run.{Bytes, zeroBoard, did, Reply, replyBy, bufferOf, sightReply, replyOf}
 use Rattle.board_spec.specs.Rep.{Stands, no-more, stands, Running, idle, runs, RepQueue, Rep}
+use Rattle.board_spec.proofs.Tested.{tested-board}
 use Rattle.board_spec.proofs.Queue.{quarter-fits, submit-rep, Turns, turn-rep}
-use Rattle.schedule.proofs.Tests.{both, check-ok, check-next}
+use Rattle.schedule.proofs.Tests.{check-ok, check-next}
 
 -- ---- quarters of a board
 
-length-quarter : (b : Bytes) (q : ℕ) → length b ≡ boardLength → q ≤ 3 → length (quarterOf b q) ≡ quarterLength
+pub length-quarter : (b : Bytes) (q : ℕ) → length b ≡ boardLength → q ≤ 3 → length (quarterOf b q) ≡ quarterLength
 unfolding quarterOf
 length-quarter b q l h = length-part b (quarterLength * q) quarterLength (omega arith)
 
-length-with : (b v : Bytes) (q : ℕ) → length (withQuarter b q v) ≡ length b
+pub length-with : (b v : Bytes) (q : ℕ) → length (withQuarter b q v) ≡ length b
 unfolding withQuarter
 length-with b v q = length-splice b (quarterLength * q) v
 
@@ -38,7 +39,7 @@ pub quarter-turn : (b : Bytes) (q x : ℕ) → q ≤ 3 → quarterOf (putU64 b t
 unfolding quarterOf
 quarter-turn b q x h = part-put-before 8 quarterLength b turnAt x (quarterLength * q) (le-leb (quarterLength * q + quarterLength) turnAt (omega arith))
 
-quarter-same : (b v : Bytes) (q : ℕ) → length b ≡ boardLength → q ≤ 3 → length v ≡ quarterLength → quarterOf (withQuarter b q v) q ≡ v
+pub quarter-same : (b v : Bytes) (q : ℕ) → length b ≡ boardLength → q ≤ 3 → length v ≡ quarterLength → quarterOf (withQuarter b q v) q ≡ v
 unfolding quarterOf withQuarter
 quarter-same b v q l h lv = part-splice-same b (quarterLength * q) v quarterLength lv (omega arith)
 
@@ -51,18 +52,14 @@ quarter-other b v t q lv n = go (ltb q t) refl
     go false e = let k : t ≤ q = ltb-false q t e in part-splice-after b (quarterLength * t) v (quarterLength * q) quarterLength (omega arith)
 
 -- the turn is after the quarters
-turn-with : (b v : Bytes) (q : ℕ) → length v ≡ quarterLength → q ≤ 3 → u64At (withQuarter b q v) turnAt ≡ u64At b turnAt
+pub turn-with : (b v : Bytes) (q : ℕ) → length v ≡ quarterLength → q ≤ 3 → u64At (withQuarter b q v) turnAt ≡ u64At b turnAt
 unfolding withQuarter numAt
 turn-with b v q lv h = ap Rattle.buf.specs.Bytes.le (part-splice-after b (quarterLength * q) v turnAt 8 (omega arith))
 
 -- ---- a board that stands for a schedule passes 6
 
 pub rep-fits : (σ : Schedule Bytes) (b : Bytes) → Rep σ b → boardFits b ≡ true
-unfolding boardFits
-rep-fits σ b r =
-    let low : u64At b turnAt < 4 = rw (r .turn) (omega (arith, r .low)) in
-    let q : (s : ℕ) → s ≤ 3 → quarterFits (quarterOf b s) ≡ true = λ s h. quarter-fits _ _ (quarterOf b s) (r .each s h) in
-    both _ _ (eq-eqb _ _ (r .len)) (both _ _ (lt-ltb _ _ low) (both _ _ (q 0 (omega arith)) (both _ _ (q 1 (omega arith)) (both _ _ (q 2 (omega arith)) (q 3 (omega arith))))))
+rep-fits σ b r = tested-board b (record { len = r .len; turn = rw (r .turn) (r .low); each = λ s h. quarter-fits _ _ (quarterOf b s) (r .each s h) })
 
 -- ---- the fresh board
 

@@ -4,3 +4,5 @@ pub mod Board
 pub mod Run
 pub mod Rep
 pub mod Demand3
+pub mod Stored
+pub mod Fits

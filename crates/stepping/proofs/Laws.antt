@@ -3,21 +3,18 @@ use mathlib.Core.Path.{_≡_, refl, sym, ap, _∙_, subst}
 use Prim.Native.Nat.{ℕ, zero, suc, _^_, _<_}
 use native.Mathlib.Omega.{arith}
 use native.Mathlib.Nat.{le-refl}
-use mathlib.Core.Bool.{Bool, true, false, not, _&&_, _||_}
+use mathlib.Core.Bool.{true, _&&_}
 use mathlib.Core.List.{List}
-use lib.Dec.{leb, ltb, eqb}
-use borrow.Author.Tests.{leb-true, ltb-true, eqb-true}
+use lib.Dec.{leb}
 use lib.Ieee.{Float}
 use Rattle.float.specs.Ops.{f0}
 use Rattle.float.specs.Sign.{finiteOf}
 use Rattle.eos.specs.Cubic.{maxDensity}
 use Rattle.solver.specs.declared.types.Answer.{Answer}
-use Rattle.solver.specs.declared.types.Counters.{Counters}
 use Rattle.solver.specs.Answer.{statusOf, valuesOf}
 use Rattle.solver.specs.Search.{Evaluator, Search, done, Going, run}
 use Rattle.solver.specs.Evaluated.{evaluated}
-use Rattle.solver.specs.Stored.{endedNumbers, statusFits, inRanges}
-use Rattle.solver.proofs.Ranges.{below}
+use Rattle.solver.specs.Stored.{endedNumbers, inRanges}
 use Rattle.solver.proofs.Steps.{finishes}
 use Rattle.solver_density.specs.Density.{densityIteration}
 use Rattle.solver_state.specs.declared.types.State.{State}
@@ -32,15 +29,16 @@ use Rattle.records.proofs.SpanLaws.{job-within}
 use Rattle.schedule.specs.Spans.{spanOf}
 use Rattle.stepping.specs.declared.types.Work.{Work}
 use Rattle.stepping.specs.declared.types.Work.the-variants as Work
-use Rattle.stepping.specs.Stepping.{workOf, refusedState, atEnd, dataRefusal, stateFits, resultOf}
+use Rattle.stepping.specs.Stepping.{workOf, workIn, refusedState, atEnd, dataRefusal, stateFits, resultOf}
 use Rattle.stepping.specs.States.{Request, stateAfter, outcomeAt, Sight, sightOf, sight}
-use Rattle.stepping.specs.Storable.{CountersStorable, FloatsStorable, Storable}
+use Rattle.stepping.specs.Storable.{FloatsStorable, Storable}
 use Rattle.stepping.specs.Laws.{Stepping}
 use Rattle.stepping.proofs.JobFloats.{start-floats, step-floats}
 use Rattle.stepping.proofs.Ends.{ends}
 use Rattle.stepping.proofs.Sights.{seen, seen-settled, seen-least}
-use Rattle.stepping.proofs.Paths.{path, along, count-low, path-fits, path-again, states, workIn, job-states}
+use Rattle.stepping.proofs.Paths.{path, along, count-low, path-fits, path-again, states, job-states}
 use Rattle.stepping.proofs.Refusals.{byData, refused-by-data}
+use Rattle.stepping.proofs.Kept.{or-left, or-right, counters-stored}
 
 -- ---- the work of a task is its course
 
@@ -60,79 +58,20 @@ course-work maxdensity (Task.Spinodal t) = refl
 
 -- ---- in range
 
--- refused by the data alone
-refusedByData : Work → Bool
-refusedByData (Work.Refused number) = leb 11 number && leb number 16
-refusedByData (Work.Search job) = true
-
-work-by-data : (maxdensity : Float) (task : Task) → byData task ≡ true → refusedByData (workOf maxdensity task) ≡ true
-unfolding workOf refusedByData byData
-work-by-data maxdensity (Task.Refused number) h = h
-work-by-data maxdensity (Task.DensityIteration t p initial) h = refl
-work-by-data maxdensity (Task.DensityIterationStable t p) h = refl
-work-by-data maxdensity (Task.PressureSpinodal t start) h = refl
-work-by-data maxdensity (Task.PressureSpinodalBranch t branch) h = refl
-work-by-data maxdensity (Task.CriticalPoint t density) h = refl
-work-by-data maxdensity (Task.Spinodal t) h = refl
-
-or-right : (a b : Bool) → b ≡ true → a || b ≡ true
-or-right true b h = refl
-or-right false b h = h
-
-or-left : (a b : Bool) → a ≡ true → a || b ≡ true
-or-left a b h = rw h
-
-states-fit : (ev : Evaluator) (w : Work) (k : ℕ) → refusedByData w ≡ true → stateFits (states ev w k) ≡ true
-unfolding states stateFits refusedByData refusedState dataRefusal atEnd
+states-fit : (ev : Evaluator) (w : Work) (k : ℕ) → byData w ≡ true → stateFits (states ev w k) ≡ true
+unfolding states stateFits byData refusedState dataRefusal atEnd
 states-fit ev (Work.Refused number) k h = or-right (inRanges (refusedState number .numbers .counters)) (leb 11 number && leb number 16) h
 states-fit ev (Work.Search job) k h = or-left _ _ (path-fits job ev k)
 
-work-data : (kind n : ℕ) (block : List ℕ) → Request kind n block → refusedByData (workIn (view kind n block)) ≡ true
-work-data kind n block r = work-by-data _ (view kind n block .task) (refused-by-data kind n block r)
-
 fits : (kind n : ℕ) (block : List ℕ) → Request kind n block → (turns : ℕ) → stateFits (stateAfter (view kind n block) turns) ≡ true
-fits kind n block r turns = ap stateFits (job-states (view kind n block) turns) ∙ states-fit _ (workIn (view kind n block)) turns (work-data kind n block r)
+fits kind n block r turns = ap stateFits (job-states (view kind n block) turns) ∙ states-fit _ (workIn (view kind n block)) turns (refused-by-data _ kind n block r)
 
 -- ---- stored
 
-status-low : (status : ℕ) → statusFits status ≡ true → status < 28
-unfolding statusFits
-status-low status h = go (eqb status 0) refl (ltb status 21) refl (ltb status 28) refl h
-  where
-    go : (a : Bool) → eqb status 0 ≡ a → (b : Bool) → ltb status 21 ≡ b → (c : Bool) → ltb status 28 ≡ c → a || (not b && c) ≡ true → status < 28
-    go true e b f c g k = let z = eqb-true status 0 e in omega arith
-    go false e b f true g k = ltb-true status 28 g
-    go false e true f false g k = let z : _≡_ {A = ℕ} 0 1 = cc in absurd (omega arith)
-    go false e false f false g k = let z : _≡_ {A = ℕ} 0 1 = cc in absurd (omega arith)
-
-counters-store : (c : Counters) → inRanges c ≡ true → CountersStorable c
-counters-store c h =
-    let b = below c h in
-    let s = status-low (c .status) (b .status) in
-    let g = b .stage in
-    let t = b .tag in
-    let l = b .left in
-    let w = b .way in
-    let r = b .rounds in
-    record { stage = omega arith; tag = omega arith; status = omega arith; left = omega arith; way = omega arith; rounds = omega arith }
-
-both-low : (a b : Bool) → a && b ≡ true → b ≡ true
-both-low true b h = h
-both-low false b h = let z : _≡_ {A = ℕ} 0 1 = cc in absurd (omega arith)
-
-pub record Counted (s : State) : Type 0 where
-  pub counters : CountersStorable (s .numbers .counters)
-  pub evaluations : s .evaluations < 2 ^ 64
-
-states-counted : (ev : Evaluator) (w : Work) (k : ℕ) → refusedByData w ≡ true → Counted (states ev w k)
-unfolding states refusedByData refusedState
-states-counted ev (Work.Refused number) k h =
-    let l = leb-true number 16 (both-low (leb 11 number) (leb number 16) h) in
-    record {
-      counters = record { stage = omega arith; tag = omega arith; status = omega arith; left = omega arith; way = omega arith; rounds = omega arith };
-      evaluations = omega arith;
-    }
-states-counted ev (Work.Search job) k h = record { counters = counters-store _ (path-fits job ev k); evaluations = let c = count-low job ev k in omega arith }
+count-fits : (ev : Evaluator) (w : Work) (k : ℕ) → states ev w k .evaluations < 2 ^ 64
+unfolding states refusedState
+count-fits ev (Work.Refused number) k = omega arith
+count-fits ev (Work.Search job) k = let c = count-low job ev k in omega arith
 
 floats : (kind n : ℕ) (block : List ℕ) (turns : ℕ) → FloatsStorable (stateAfter (view kind n block) turns)
 unfolding stateAfter
@@ -141,8 +80,11 @@ floats kind n block (suc k) = step-floats kind n block (stateAfter (view kind n 
 
 stores : (kind n : ℕ) (block : List ℕ) → Request kind n block → (turns : ℕ) → Storable (stateAfter (view kind n block) turns)
 stores kind n block r turns =
-    let c = subst Counted (sym (job-states (view kind n block) turns)) (states-counted _ (workIn (view kind n block)) turns (work-data kind n block r)) in
-    record { counters = c .counters; evaluations = c .evaluations; floats = floats kind n block turns }
+    record {
+      counters = counters-stored _ (fits kind n block r turns);
+      evaluations = rw (job-states (view kind n block) turns) (count-fits _ (workIn (view kind n block)) turns);
+      floats = floats kind n block turns;
+    }
 
 -- ---- seen
 

@@ -8,5 +8,6 @@ pub mod Ends
 pub mod Sights
 pub mod Paths
 pub mod Refusals
+pub mod Kept
 pub mod Laws
 pub mod AnswerLaws

@@ -9,7 +9,6 @@ use borrow.Author.Tests.{leb-true, leb-false}
 use lib.Ieee.{Float}
 use Rattle.float.specs.Ops.{f0}
 use Rattle.float.specs.Sign.{finiteOf}
-use Rattle.eos.specs.Cubic.{maxDensity}
 use Rattle.solver.specs.Search.{Evaluator, Going, next, after, fresh, settle}
 use Rattle.solver.specs.Evaluated.{evaluated}
 use Rattle.solver.proofs.Steps.{finishes}
@@ -37,7 +36,7 @@ use Rattle.block.specs.declared.types.Job as Block
 use Rattle.stepping.specs.declared.types.Work.{Work}
 use Rattle.stepping.specs.declared.types.Work.the-variants as Work
 use Rattle.stepping.specs.Stepping as Stepping
-use Rattle.stepping.specs.Stepping.{workOf, refusedState, startBy, uncounted, stepBy}
+use Rattle.stepping.specs.Stepping.{workIn, refusedState, startBy, uncounted, stepBy}
 use Rattle.stepping.specs.States.{stateAfter}
 use Rattle.stepping.proofs.Ends.{again, begin-again, step-again}
 use Rattle.stepping.proofs.Sights.{after-last, after-most}
@@ -81,7 +80,7 @@ module _ (ev : Evaluator) (s : State) where
   spinodals-apart maxdensity t (Spinodals.Ended a) = ended-apart
   spinodals-apart maxdensity t (Spinodals.At x) = refl
 
-step-apart : (job : Job) (ev : Evaluator) (s : State) → stepOf job ev s ≡ added s (stepOf job ev (uncounted s))
+pub step-apart : (job : Job) (ev : Evaluator) (s : State) → stepOf job ev s ≡ added s (stepOf job ev (uncounted s))
 unfolding stepOf
 step-apart (Density c) ev s = density-apart ev s c _
 step-apart (StableDensity maxdensity t p) ev s = stable-apart ev s maxdensity t p _
@@ -167,9 +166,6 @@ states-start : (ev : Evaluator) (w : Work) → startBy w ≡ states ev w 0
 unfolding states path startBy
 states-start ev (Work.Refused number) = refl
 states-start ev (Work.Search job) = refl
-
-abbrev pub workIn : Block.Job → Work
-workIn job = workOf (maxDensity (job .blend)) (job .task)
 
 pub job-states : (job : Block.Job) (k : ℕ) → stateAfter job k ≡ states (evaluated (job .blend)) (workIn job) k
 unfolding stateAfter Stepping.startOf Stepping.stepOf

@@ -1,5 +1,5 @@
 -- The states of a job, one evaluation after another, and what a look shows of them. Definitions only.
-use Prim.Native.Nat.{ℕ, zero, suc, min}
+use Prim.Native.Nat.{ℕ, zero, suc, min, _%_, _^_}
 use mathlib.Core.Path.{_≡_}
 use mathlib.Core.Bool.{true}
 use mathlib.Core.List.{List}
@@ -8,7 +8,7 @@ use lib.Ieee.{Float}
 use Rattle.float.specs.Ops.{f0}
 use Rattle.float.specs.Sign.{finiteOf}
 use Rattle.eos.specs.Cubic.{maxDensity}
-use Rattle.solver.specs.Search.{Evaluator, run, after, fresh}
+use Rattle.solver.specs.Search.{Evaluator, run, Going, after, fresh}
 use Rattle.solver.specs.Evaluated.{evaluated}
 use Rattle.block.specs.declared.types.Job.{Job}
 use Rattle.block.specs.View.{view}
@@ -32,6 +32,10 @@ stateAfter job (suc k) = stepOf job (stateAfter job k)
 -- what the record states of a state
 unfoldable pub outcomeAt : State → Outcome
 outcomeAt s = record { status = resultOf s .status; values = resultOf s .values; evaluations = s .evaluations }
+
+-- a search under way with its count in eight bytes
+unfoldable pub wrapped : Going → Going
+wrapped g = record { left = g .left; evaluations = g .evaluations % 2 ^ 64; latest = g .latest }
 
 -- "Look gives the running job's evaluations so far and the density of the latest one (+0 before any)"
 pub record Sight : Type 0 where

@@ -30,6 +30,9 @@ workOf maxdensity (Task.PressureSpinodalBranch t branch) = Work.Search (Search.B
 workOf maxdensity (Task.CriticalPoint t density) = Work.Search (Search.CriticalPoint maxdensity t density)
 workOf maxdensity (Task.Spinodal t) = Work.Search (Search.StabilitySpinodals maxdensity t)
 
+abbrev pub workIn : Job → Work
+workIn job = workOf (maxDensity (job .blend)) (job .task)
+
 -- a job refused by its data is at its end before any evaluation: tag 0, and the refusal as its status
 unfoldable pub refusedState : ℕ → State
 refusedState number = record {
@@ -46,7 +49,7 @@ startBy (Work.Refused number) = refusedState number
 startBy (Work.Search job) = Steps.startOf job
 
 unfoldable pub startOf : Job → State
-startOf job = startBy (workOf (maxDensity (job .blend)) (job .task))
+startOf job = startBy (workIn job)
 
 -- a state with its count put to zero, and with n more counted, in eight bytes
 abbrev pub uncounted : State → State
@@ -61,7 +64,7 @@ stepBy ev (Work.Refused number) s = s
 stepBy ev (Work.Search job) s = counted (s .evaluations) (Steps.stepOf job ev (uncounted s))
 
 unfoldable pub stepOf : Job → State → State
-stepOf job s = stepBy (evaluated (job .blend)) (workOf (maxDensity (job .blend)) (job .task)) s
+stepOf job s = stepBy (evaluated (job .blend)) (workIn job) s
 
 -- stage 0 and tag 0: every kind reads this as its end
 unfoldable pub atEnd : Counters → Bool
