@@ -11,7 +11,7 @@ use borrow.Rule.Slice.PartMut.{putMid}
 use Rattle.buf.specs.Bytes.{splice, u64At, putU64}
 use Rattle.buf.proofs.Laws.{length-part, lent-part, lent-back}
 use Rattle.records.specs.Record.{recordBytes}
-use Rattle.schedule.specs.Spans.{spanOf}
+use Rattle.schedule.specs.Spans.{kindFits, countFits, spanOf}
 use Rattle.schedule.specs.Schedule.{Verdict, accept, refuse, check, submitVerdict, turnVerdict, lookVerdict, onward}
 use Rattle.schedule.proofs.Tests.{left-true, right-true}
 use Rattle.solver_state.specs.declared.types.State.{State}
@@ -149,50 +149,40 @@ module _ (b : List ℕ) (queue kind n : ℕ) (block : List ℕ) where
     unfolding submittedOf submitVerdict
     submit-1 h = refuses Submitted.BadQueue 1 refl (rw (f, lt-leb _ _ h))
 
-    module _ (hq : queue ≤ 3) where
-      pub submit-2-low : kind < 1 → Submits Submitted.BadKind b
+    module _ (hq : queue ≤ 3) (kf : Bool) (ek : kf ≡ kindFits kind) where
+      pub submit-2 : not kf ≡ true → Submits Submitted.BadKind b
       unfolding submittedOf submitVerdict
-      submit-2-low h = refuses Submitted.BadKind 2 refl (rw (f, le-leb _ _ hq, lt-leb _ _ h))
+      submit-2 h = refuses Submitted.BadKind 2 refl (rw (f, le-leb _ _ hq, ← ek, not-true kf h))
 
-      module _ (k₁ : 1 ≤ kind) where
-        pub submit-2-high : 6 < kind → Submits Submitted.BadKind b
+      module _ (hk : not kf ≡ false) (nf : Bool) (en : nf ≡ countFits n) where
+        pub submit-3 : not nf ≡ true → Submits Submitted.BadCount b
         unfolding submittedOf submitVerdict
-        submit-2-high h = refuses Submitted.BadKind 2 refl (rw (f, le-leb _ _ hq, le-leb _ _ k₁, lt-leb _ _ h))
+        submit-3 h = refuses Submitted.BadCount 3 refl (rw (f, le-leb _ _ hq, ← ek, not-false kf hk, ← en, not-true nf h))
 
-        module _ (k₆ : kind ≤ 6) where
-          pub submit-3-low : n < 1 → Submits Submitted.BadCount b
+        module _ (hn : not nf ≡ false) where
+          pub submit-8 : (length block ≡ 640 → ⊥) → Submits Submitted.BadBlockLength b
           unfolding submittedOf submitVerdict
-          submit-3-low h = refuses Submitted.BadCount 3 refl (rw (f, le-leb _ _ hq, le-leb _ _ k₁, le-leb _ _ k₆, lt-leb _ _ h))
+          submit-8 h = refuses Submitted.BadBlockLength 8 refl (rw (f, le-leb _ _ hq, ← ek, not-false kf hk, ← en, not-false nf hn, ne-eqb _ _ h))
 
-          module _ (n₁ : 1 ≤ n) where
-            pub submit-3-high : 8 < n → Submits Submitted.BadCount b
-            unfolding submittedOf submitVerdict
-            submit-3-high h = refuses Submitted.BadCount 3 refl (rw (f, le-leb _ _ hq, le-leb _ _ k₁, le-leb _ _ k₆, le-leb _ _ n₁, lt-leb _ _ h))
+          module _ (l : length block ≡ 640) (held : ℕ) (eh : held ≡ u64At (lent b queue) heldAt) where
+            held-is : held ≡ u64At (quarterOf b queue) heldAt
+            held-is = eh ∙ ap (λ (q : List ℕ). u64At q heldAt) (lent-is b queue)
 
-            module _ (n₈ : n ≤ 8) where
-              pub submit-8 : (length block ≡ 640 → ⊥) → Submits Submitted.BadBlockLength b
-              unfolding submittedOf submitVerdict
-              submit-8 h = refuses Submitted.BadBlockLength 8 refl (rw (f, le-leb _ _ hq, le-leb _ _ k₁, le-leb _ _ k₆, le-leb _ _ n₁, le-leb _ _ n₈, ne-eqb _ _ h))
+            verdict-by : submits ≡ check (ltb held 8) 4 accept
+            unfolding submitVerdict
+            verdict-by = rw (f, le-leb _ _ hq, ← ek, not-false kf hk, ← en, not-false nf hn, eq-eqb _ _ l, ← held-is)
 
-              module _ (l : length block ≡ 640) (held : ℕ) (eh : held ≡ u64At (lent b queue) heldAt) where
-                held-is : held ≡ u64At (quarterOf b queue) heldAt
-                held-is = eh ∙ ap (λ (q : List ℕ). u64At q heldAt) (lent-is b queue)
+            pub submit-4 : 8 ≤ held → Submits Submitted.Full b
+            unfolding submittedOf
+            submit-4 h = refuses Submitted.Full 4 refl (verdict-by ∙ rw (le-ltb _ _ h))
 
-                verdict-by : submits ≡ check (ltb held 8) 4 accept
-                unfolding submitVerdict
-                verdict-by = rw (f, le-leb _ _ hq, le-leb _ _ k₁, le-leb _ _ k₆, le-leb _ _ n₁, le-leb _ _ n₈, eq-eqb _ _ l, ← held-is)
-
-                pub submit-4 : 8 ≤ held → Submits Submitted.Full b
-                unfolding submittedOf
-                submit-4 h = refuses Submitted.Full 4 refl (verdict-by ∙ rw (le-ltb _ _ h))
-
-                pub submit-taken : held < 8 → (ticket : ℕ) (v : List ℕ) → ticket ≡ u64At (lent b queue) acceptedAt → v ≡ submitQuarter (lent b queue) kind n block
-                    → length v ≡ length (lent b queue) → Submits (Submitted.Ticket ticket) (back b queue v)
-                unfolding submitBoard submitJudged submittedOf
-                submit-taken h ticket v et ev lv =
-                    let ok : submits ≡ accept = verdict-by ∙ rw (lt-ltb _ _ h) in
-                    let at : back b queue v ≡ withQuarter b queue v = back-is b v queue (fits-length b f) (omega arith) lv in
-                    rw (ok, at, et, ev, lent-is b queue) (refl, refl)
+            pub submit-taken : held < 8 → (ticket : ℕ) (v : List ℕ) → ticket ≡ u64At (lent b queue) acceptedAt → v ≡ submitQuarter (lent b queue) kind n block
+                → length v ≡ length (lent b queue) → Submits (Submitted.Ticket ticket) (back b queue v)
+            unfolding submitBoard submitJudged submittedOf
+            submit-taken h ticket v et ev lv =
+                let ok : submits ≡ accept = verdict-by ∙ rw (lt-ltb _ _ h) in
+                let at : back b queue v ≡ withQuarter b queue v = back-is b v queue (fits-length b f) (omega arith) lv in
+                rw (ok, at, et, ev, lent-is b queue) (refl, refl)
 
 -- ---- turn
 

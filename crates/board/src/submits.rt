@@ -15,16 +15,10 @@ pub fn submit(board: &mut [u8], queue: u64, kind: u64, n: u64, block: &[u8]) -> 
     if 3 < queue {
         return Submitted::BadQueue;
     }
-    if kind < 1 {
+    if !schedule::kind_fits(kind) {
         return Submitted::BadKind;
     }
-    if 6 < kind {
-        return Submitted::BadKind;
-    }
-    if n < 1 {
-        return Submitted::BadCount;
-    }
-    if 8 < n {
+    if !schedule::count_fits(n) {
         return Submitted::BadCount;
     }
     if block.len() != 640 {

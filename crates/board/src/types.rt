@@ -23,3 +23,13 @@ pub enum Looked {
     NotRunning,
     Shown { evaluations: u64, density: f64 },
 }
+
+// The answer of any call, refusals by document 01's numbers.
+pub enum Told {
+    Refused(u64),
+    Ticket(u64),
+    // 1 if a record was written, else 0
+    Turned(u64),
+    // evaluations, density
+    Shown(u64, f64),
+}

@@ -14,10 +14,7 @@ use Rattle.board_spec.specs.Run.{Bytes}
 use Rattle.text.specs.Digits.{digits}
 use Rattle.text.specs.Line.{space, newline, numberText}
 use Rattle.text.proofs.DigitLaws.{length-digits, splice-last}
-use Rattle.calls.specs.declared.types.Told.{Told}
-use Rattle.calls.specs.declared.types.Told.the-variants as ToldVariants
-use Rattle.calls.specs.Calls.{answerOf}
-use Rattle.call_lines.specs.Lines.{writtenWord, nothingLine, lookedWord, writtenLine, lookedLine, hasRecord, Line}
+use Rattle.call_lines.specs.Lines.{writtenWord, nothingLine, lookedWord, writtenLine, lookedLine, Line}
 
 -- v is stored over s from index at, and ends at `end`
 abbrev pub Put : (s : Bytes) (at : ℕ) (v s′ : Bytes) (end : ℕ) → Type 0
@@ -69,8 +66,3 @@ looked-put s s₁ s₂ s₃ evaluations a bits density eb e p f =
     let z : a + 16 + 1 ≡ a + length (digits 16 16 bits ++ (newline ∷ [])) = rw length-append (omega arith) in
     let all = then s₁ s₂ _ _ _ 7 a (a + 16 + 1) (p .0, p .1) (w, z) in
     rw (← eb) (line s _ _ _ (then s s₁ _ _ _ 0 7 (a + 16 + 1) (e, refl) all) (omega arith))
-
--- a turn's record that was written is whole
-pub record-room : (t : Told) (answer size : ℕ) → t ≡ ToldVariants.Turned answer → answer ≡ 1 → hasRecord (answerOf t) size ≡ true → 64 ≤ size
-unfolding hasRecord answerOf
-record-room t answer size e o h = leb-true 64 size (rw (e, o) at h)

@@ -53,13 +53,6 @@ lineOf r = lineFor (r .answer) (r .buffer)
 
 -- ---- what the parts of the code do
 
--- a record that was written is in a buffer of this size
-unfoldable pub hasRecord : Answer → (size : ℕ) → Bool
-hasRecord (Refused number) size = true
-hasRecord (Ticket ticket) size = true
-hasRecord (Turned answer) size = cond (eqb answer 1) (leb 64 size) true
-hasRecord (Shown evaluations density) size = true
-
 -- a line stands at the start of w′, the rest of which is that of w, and is `end` bytes long
 pub record Line (w : Bytes) (l : Bytes) (w′ : Bytes) (end : ℕ) : Type 0 where
   pub bytes : w′ ≡ splice w 0 l

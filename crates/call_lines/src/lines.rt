@@ -1,13 +1,12 @@
 // The line of an answer.
 ghost use mathlib.Core.Path.{_≡_};
-ghost use mathlib.Core.Bool.{true};
 ghost use mathlib.Core.List.{_++_};
 ghost use Prim.Native.Nat.{_≤_};
 ghost use lib.ListN.{length};
 ghost use Rattle.text.specs.Line.{numberText, newline};
-ghost use Rattle.calls.specs.Calls.{answerOf};
-ghost use Rattle.call_lines.specs.Lines.{writtenLine, nothingLine, lookedLine, lineFor, hasRecord, Line};
-use calls::Told;
+ghost use Rattle.board.specs.Answers.{answerOf};
+ghost use Rattle.call_lines.specs.Lines.{writtenLine, nothingLine, lookedLine, lineFor, Line};
+use board::Told;
 
 // A word and a number.
 pub fn put_named(out: &mut [u8], word: &[u8], number: u64) -> usize
@@ -54,7 +53,7 @@ fn put_looked(out: &mut [u8], evaluations: u64, density: f64) -> usize
 
 // `record` is the record buffer after the call, and is read only where a record was written.
 pub fn put_told(out: &mut [u8], told: Told, record: &[u8]) -> usize
-    requires { ⌜ (128 ≤ length (now out)) × (hasRecord (answerOf told) (length (now «record»)) ≡ true) ⌝ }
+    requires { ⌜ (128 ≤ length (now out)) × (64 ≤ length (now «record»)) ⌝ }
     ensures { λ r. ⌜ Line (now (out .entry)) (lineFor (answerOf told) (now («record» .entry))) (now (out .exit)) r ⌝ }
 {
     match told {

@@ -11,7 +11,7 @@ use Rattle.buf.specs.Bytes.{u64At}
 use Rattle.calls.specs.declared.types.Call as code-call
 use Rattle.calls.specs.declared.types.Found.{Found}
 use Rattle.calls.specs.declared.types.Found.the-variants.{At, End}
-use Rattle.calls.specs.Calls.{Placed, submitAt, turnAt, lookAt, callAt, callOf, foundOf, callFits, foundFits}
+use Rattle.calls.specs.Calls.{Placed, submitAt, turnAt, lookAt, callAt, callWith, foundOf, callFits, foundFits}
 
 -- r stands for what is placed there, and fits
 abbrev pub Finds : List ℕ → Found → Option Placed → Type 0
@@ -24,7 +24,7 @@ module _ (s : List ℕ) (at l : ℕ) (el : l ≡ u64At s (at + 32)) where
 
   pub submit-read : (queue kind n : ℕ) → queue ≡ u64At s (at + 8) → kind ≡ u64At s (at + 16) → n ≡ u64At s (at + 24) → at + 40 ≤ length s → l ≤ length s - (at + 40)
       → Finds s (At (code-call.the-variants.Submit queue kind n (at + 40) l) (at + 40 + l)) (submitAt s at)
-  unfolding foundOf foundFits submitAt callOf callFits
+  unfolding foundOf foundFits submitAt callWith callFits
   submit-read queue kind n eq ek en h k =
       let g : at + 40 + l ≤ length s = omega arith in
       (rw (← el, ← eq, ← ek, ← en, le-leb _ _ g), le-leb _ _ g)
@@ -34,11 +34,11 @@ module _ (s : List ℕ) (at l : ℕ) (el : l ≡ u64At s (at + 32)) where
   turn-long h = (rw (← el, lt-leb _ _ h), refl)
 
   pub turn-read : l ≤ 256 → Finds s (At (code-call.the-variants.Turn l) (at + 40)) (turnAt s at)
-  unfolding foundOf foundFits turnAt callOf callFits
+  unfolding foundOf foundFits turnAt callWith callFits
   turn-read h = (rw (← el, le-leb _ _ h), le-leb _ _ h)
 
 pub look-read : (s : List ℕ) (at queue : ℕ) → queue ≡ u64At s (at + 8) → Finds s (At (code-call.the-variants.Look queue) (at + 40)) (lookAt s at)
-unfolding foundOf foundFits lookAt callOf callFits
+unfolding foundOf foundFits lookAt callWith callFits
 look-read s at queue e = (rw (← e), refl)
 
 -- no room for a header

@@ -18,11 +18,9 @@ use lib.ListN.{length}
 use lib.Dec.{leb, eqb}
 use Rattle.buf.specs.Bytes.{part, splice, u64At, putU64, zeros}
 use Rattle.schedule.specs.Schedule.{Call, Submit, Turn, Look}
-use Rattle.board_spec.specs.Board.{Answer, Refused, Ticket, Turned, Shown}
 use Rattle.board_spec.specs.Run.{Bytes, Calls, Public, refusal, ticketed, turning, looking}
 use Rattle.calls.specs.declared.types.Call as code-call
 use Rattle.calls.specs.declared.types.Found as code-found
-use Rattle.calls.specs.declared.types.Told as code-told
 
 -- ---- calls
 
@@ -77,10 +75,14 @@ answersBytes (p ∷ ps) = answerBytes p ++ answersBytes ps
 
 -- ---- what the code's values stand for
 
-unfoldable pub callOf : Bytes → code-call.Call → Call Bytes
-callOf s (code-call.the-variants.Submit queue kind n from length) = Submit queue kind n (part s from length)
-callOf s (code-call.the-variants.Turn length) = Turn (zeros length)
-callOf s (code-call.the-variants.Look queue) = Look queue
+-- with a record buffer for each length
+unfoldable pub callWith : Bytes → (ℕ → Bytes) → code-call.Call → Call Bytes
+callWith s buffer (code-call.the-variants.Submit queue kind n from length) = Submit queue kind n (part s from length)
+callWith s buffer (code-call.the-variants.Turn length) = Turn (buffer length)
+callWith s buffer (code-call.the-variants.Look queue) = Look queue
+
+abbrev pub callOf : Bytes → code-call.Call → Call Bytes
+callOf s call = callWith s zeros call
 
 unfoldable pub foundOf : Bytes → code-found.Found → Option Placed
 foundOf s code-found.the-variants.End = none
@@ -95,9 +97,3 @@ callFits size (code-call.the-variants.Look queue) = true
 unfoldable pub foundFits : (size : ℕ) → code-found.Found → Bool
 foundFits size code-found.the-variants.End = true
 foundFits size (code-found.the-variants.At call next) = callFits size call
-
-unfoldable pub answerOf : code-told.Told → Answer
-answerOf (code-told.the-variants.Refused number) = Refused number
-answerOf (code-told.the-variants.Ticket ticket) = Ticket ticket
-answerOf (code-told.the-variants.Turned answer) = Turned answer
-answerOf (code-told.the-variants.Shown evaluations density) = Shown evaluations density

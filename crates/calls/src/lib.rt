@@ -6,5 +6,4 @@ mod writer;
 pub use crate::reader::call_at;
 pub use crate::types::Call;
 pub use crate::types::Found;
-pub use crate::types::Told;
 pub use crate::writer::put_answer;

@@ -1,4 +1,4 @@
-// A call that stands in bytes, and what a call is answered. specs/Calls.antt says what each stands for.
+// A call that stands in bytes. specs/Calls.antt says what each stands for.
 
 // Blocks are named by their place: `length` bytes from index `from`. A turn's record buffer is `length` zero bytes.
 pub enum Call {
@@ -21,14 +21,4 @@ pub enum Call {
 pub enum Found {
     At(Call, usize),
     End,
-}
-
-// The answer of any call, refusals by document 01's numbers.
-pub enum Told {
-    Refused(u64),
-    Ticket(u64),
-    // 1 if a record was written, else 0
-    Turned(u64),
-    // evaluations, density
-    Shown(u64, f64),
 }

@@ -7,8 +7,9 @@ ghost use lib.ListN.{length};
 ghost use lib.Dec.{eqb};
 ghost use Rattle.buf.specs.Bytes.{part, splice};
 ghost use Rattle.board_spec.specs.Run.{publicOf};
-ghost use Rattle.calls.specs.Calls.{framed, answerBytes, answerOf};
-use crate::types::Told;
+ghost use Rattle.board.specs.Answers.{answerOf};
+ghost use Rattle.calls.specs.Calls.{framed, answerBytes};
+use board::Told;
 
 fn put_framed(out: &mut [u8], at: usize, what: u64, number: u64, written: &[u8])
     requires { ⌜ (at + 32 ≤ length (now out)) × (length (now written) ≤ 16) ⌝ }

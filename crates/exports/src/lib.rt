@@ -8,12 +8,9 @@ ghost use Rattle.eos.specs.Residual.{pDpdrho, pDpdrhoD2pdrho2, chemicalPotentia
 ghost use Rattle.eos.specs.Critical.{criticalityConditions, stabilityCondition};
 ghost use Rattle.records.specs.Answered.{numberOf, answered};
 ghost use Rattle.board_spec.specs.Board.{submitBoard, turnBoard, lookBoard};
-ghost use Rattle.board.specs.Answers.{submittedOf, turnedOf, lookedOf};
-ghost use Rattle.exports.specs.Calls.{numberOf as numberSaid, ticketOf, evaluationsOf, densityOf};
+ghost use Rattle.board.specs.Answers.{numberOf as numberSaid, ticketOf, evaluationsOf, densityOf};
 ghost use Rattle.exports.specs.Rows.{blendOf, pressureRow, criticalityRow, stabilityRow};
-use board::Looked;
-use board::Submitted;
-use board::Turned;
+use board::Told;
 use eos::Blend;
 use jet::Jet;
 
@@ -270,93 +267,7 @@ pub extern "C" fn pr_answer(kind: u64, n: u64, block: &[u8], record: &mut [u8]) 
     records::number(answered)
 }
 
-// What `pr_submit` says: its number, and what then stands where the ticket goes.
-struct SubmitSaid {
-    number: u64,
-    ticket: u64,
-}
-
-fn submit_said(submitted: Submitted, before: u64) -> SubmitSaid
-    ensures { λ r. ⌜ r ≡ record { number = numberSaid (submittedOf submitted); ticket = ticketOf before (submittedOf submitted) } ⌝ }
-{
-    match submitted {
-        Submitted::BadBoard => SubmitSaid {
-            number: 6,
-            ticket: before,
-        },
-        Submitted::BadQueue => SubmitSaid {
-            number: 1,
-            ticket: before,
-        },
-        Submitted::BadKind => SubmitSaid {
-            number: 2,
-            ticket: before,
-        },
-        Submitted::BadCount => SubmitSaid {
-            number: 3,
-            ticket: before,
-        },
-        Submitted::BadBlockLength => SubmitSaid {
-            number: 8,
-            ticket: before,
-        },
-        Submitted::Full => SubmitSaid {
-            number: 4,
-            ticket: before,
-        },
-        Submitted::Ticket(ticket) => SubmitSaid { number: 0, ticket },
-    }
-}
-
-fn turn_said(turned: Turned) -> u64
-    ensures { λ r. ⌜ r ≡ numberSaid (turnedOf turned) ⌝ }
-{
-    match turned {
-        Turned::BadBoard => 6,
-        Turned::ShortRecord => 5,
-        Turned::Nothing => 0,
-        Turned::Written => 1,
-    }
-}
-
-// What `pr_look` says: its number, and what then stands where the sight goes.
-struct LookSaid {
-    number: u64,
-    evaluations: u64,
-    density: f64,
-}
-
-fn look_said(looked: Looked, evaluations: u64, density: f64) -> LookSaid
-    ensures { λ r. ⌜ r ≡ record { number = numberSaid (lookedOf looked); evaluations = evaluationsOf evaluations (lookedOf looked); density = densityOf density (lookedOf looked) } ⌝ }
-{
-    match looked {
-        Looked::BadBoard => LookSaid {
-            number: 6,
-            evaluations,
-            density,
-        },
-        Looked::BadQueue => LookSaid {
-            number: 1,
-            evaluations,
-            density,
-        },
-        Looked::NotRunning => LookSaid {
-            number: 7,
-            evaluations,
-            density,
-        },
-        Looked::Shown {
-            evaluations: made,
-            density: latest,
-        } => LookSaid {
-            number: 0,
-            evaluations: made,
-            density: latest,
-        },
-    }
-}
-
-// The board's calls. specs/Calls.antt says what their number means; what a refusal leaves unsaid stands as it was.
+// The board's calls. specs/Answers.antt of `board` says what their number means; what a refusal leaves unsaid stands as it was.
 #[no_mangle]
 pub extern "C" fn pr_submit(
     board: &mut [u8],
@@ -368,27 +279,30 @@ pub extern "C" fn pr_submit(
 ) -> u64
     ensures { λ r. ⌜ (r ≡ numberSaid (submitBoard (now (board .entry)) queue kind n (now (block .entry)) .answer)) × (now (board .exit) ≡ submitBoard (now (board .entry)) queue kind n (now (block .entry)) .board) × (now (ticket .exit) ≡ ticketOf (now (ticket .entry)) (submitBoard (now (board .entry)) queue kind n (now (block .entry)) .answer)) ⌝ }
 {
-    let submitted = board::submit(board, queue, kind, n, block);
-    let said = submit_said(submitted, *ticket);
-    *ticket = said.ticket;
-    said.number
+    let told = board::tell_submit(board, queue, kind, n, block);
+    let Told::Ticket(count) = told else {
+        return board::number(told);
+    };
+    *ticket = count;
+    0
 }
 
 #[no_mangle]
 pub extern "C" fn pr_turn(board: &mut [u8], record: &mut [u8]) -> u64
     ensures { λ r. ⌜ (r ≡ numberSaid (turnBoard (now (board .entry)) (now («record» .entry)) .answer)) × (now (board .exit) ≡ turnBoard (now (board .entry)) (now («record» .entry)) .board) × (now («record» .exit) ≡ turnBoard (now (board .entry)) (now («record» .entry)) .buffer) ⌝ }
 {
-    let turned = board::turn(board, record);
-    turn_said(turned)
+    board::number(board::tell_turn(board, record))
 }
 
 #[no_mangle]
 pub extern "C" fn pr_look(board: &[u8], queue: u64, evaluations: &mut u64, density: &mut f64) -> u64
     ensures { λ r. ⌜ (r ≡ numberSaid (lookBoard (now (board .entry)) queue .answer)) × (now (evaluations .exit) ≡ evaluationsOf (now (evaluations .entry)) (lookBoard (now (board .entry)) queue .answer)) × (now (density .exit) ≡ densityOf (now (density .entry)) (lookBoard (now (board .entry)) queue .answer)) ⌝ }
 {
-    let looked = board::look(board, queue);
-    let said = look_said(looked, *evaluations, *density);
-    *evaluations = said.evaluations;
-    *density = said.density;
-    said.number
+    let told = board::tell_look(board, queue);
+    let Told::Shown(made, latest) = told else {
+        return board::number(told);
+    };
+    *evaluations = made;
+    *density = latest;
+    0
 }

@@ -19,7 +19,9 @@ use Rattle.board_spec.specs.Layout.{boardLength}
 use Rattle.board_spec.specs.Board.{Answer, Refused, Ticket, Turned, submitBoard, turnBoard}
 use Rattle.board_spec.specs.Run.{Bytes, zeroBoard, recordOf}
 use Rattle.text.specs.Line.{newline, numberText, lineOf}
-use Rattle.jobs.specs.Line.{recordFor, lineBy, verdictOf, replyOf, refusalOf, isWritten, refusalBy, recordBy}
+use Rattle.board.specs.Answers.{numberOf}
+use Rattle.replay.proofs.CallLaws.{splice-whole}
+use Rattle.jobs.specs.Line.{recordFor, lineBy, verdictOf, replyOf, refusalBy, recordBy}
 use Rattle.jobs.proofs.Alone.{Alone, submit-refused, submit-accepted, Again, Last, turn-again, turn-last}
 
 -- ---- the submit
@@ -40,7 +42,7 @@ never-zero kind n block m e =
 
 -- what is known after a submit to the cleared board
 module _ (kind n : ℕ) (block b₁ b₂ : Bytes) (m number : ℕ) (a : Answer) (lm : m ≡ boardLength) (cleared : b₁ ≡ zeros m) (ea : a ≡ submitBoard b₁ 0 kind n block .answer)
-    (eb : b₂ ≡ submitBoard b₁ 0 kind n block .board) (en : number ≡ refusalOf a) where
+    (eb : b₂ ≡ submitBoard b₁ 0 kind n block .board) (en : number ≡ numberOf a) where
   fresh-board : b₁ ≡ zeroBoard
   unfolding zeroBoard
   fresh-board = cleared ∙ ap zeros lm
@@ -52,37 +54,34 @@ module _ (kind n : ℕ) (block b₁ b₂ : Bytes) (m number : ℕ) (a : Answer) 
   board-is = eb ∙ ap (λ (x : Bytes). submitBoard x 0 kind n block .board) fresh-board
 
   pub run-refused : (r : Bytes) → (number ≡ 0 → ⊥) → (number ≡ refusalBy (verdictOf kind n block)) × (r ≡ recordBy kind n block r (verdictOf kind n block))
-  unfolding refusalBy recordBy refusalOf
+  unfolding refusalBy recordBy numberOf
   run-refused r h = go (verdictOf kind n block) refl
     where
       go : (v : Verdict) → verdictOf kind n block ≡ v → (number ≡ refusalBy v) × (r ≡ recordBy kind n block r v)
-      go accept e = absurd (h (en ∙ ap refusalOf (answer-is ∙ submit-accepted kind n block e .answer)))
-      go (refuse m) e = (en ∙ ap refusalOf (answer-is ∙ submit-refused kind n block m e), refl)
+      go accept e = absurd (h (en ∙ ap numberOf (answer-is ∙ submit-accepted kind n block e .answer)))
+      go (refuse m) e = (en ∙ ap numberOf (answer-is ∙ submit-refused kind n block m e), refl)
 
   pub run-begun : number ≡ 0 → (verdictOf kind n block ≡ accept) × Alone kind n block 0 b₂
-  unfolding refusalOf
+  unfolding numberOf
   run-begun h = go (verdictOf kind n block) refl
     where
       go : (v : Verdict) → verdictOf kind n block ≡ v → (v ≡ accept) × Alone kind n block 0 b₂
       go accept e = (refl, rw board-is (submit-accepted kind n block e .alone))
-      go (refuse m) e = absurd (never-zero kind n block m e (sym (en ∙ ap refusalOf (answer-is ∙ submit-refused kind n block m e)) ∙ h))
+      go (refuse m) e = absurd (never-zero kind n block m e (sym (en ∙ ap numberOf (answer-is ∙ submit-refused kind n block m e)) ∙ h))
 
 -- ---- the turns
 
-true-false : (x : Bool) → x ≡ true → x ≡ false → _≡_ {A = ℕ} 0 1
-true-false x t f = cc
+module _ (kind n : ℕ) (block : Bytes) (made : ℕ) (b b′ r r′ : Bytes) (a : Answer) (x : ℕ) (al : Alone kind n block made b) (h : 64 ≤ length r) (ea : a ≡ turnBoard b r .answer)
+    (eb : b′ ≡ turnBoard b r .board) (er : r′ ≡ turnBoard b r .buffer) (ex : x ≡ numberOf a) where
+  early-is : Again kind n block made b r → x ≡ 0
+  unfolding numberOf
+  early-is g = ex ∙ ap numberOf (ea ∙ g .answer)
 
-module _ (kind n : ℕ) (block : Bytes) (made : ℕ) (b b′ r r′ : Bytes) (a : Answer) (x : Bool) (al : Alone kind n block made b) (h : 64 ≤ length r) (ea : a ≡ turnBoard b r .answer)
-    (eb : b′ ≡ turnBoard b r .board) (er : r′ ≡ turnBoard b r .buffer) (ex : x ≡ isWritten a) where
-  early-is : Again kind n block made b r → x ≡ false
-  unfolding isWritten
-  early-is g = ex ∙ ap isWritten (ea ∙ g .answer)
+  last-is : Last kind n block b r → x ≡ 1
+  unfolding numberOf
+  last-is g = ex ∙ ap numberOf (ea ∙ g .answer)
 
-  last-is : Last kind n block b r → x ≡ true
-  unfolding isWritten
-  last-is g = ex ∙ ap isWritten (ea ∙ g .answer)
-
-  run-written : x ≡ true → verdictOf kind n block ≡ accept → (0 ≡ refusalBy (verdictOf kind n block)) × (r′ ≡ recordBy kind n block r (verdictOf kind n block))
+  run-written : x ≡ 1 → verdictOf kind n block ≡ accept → (0 ≡ refusalBy (verdictOf kind n block)) × (r′ ≡ recordBy kind n block r (verdictOf kind n block))
   unfolding refusalBy recordBy
   run-written t v = rw v (refl, go (eqb made (4 * (spanOf kind - 1))) refl)
     where
@@ -91,14 +90,14 @@ module _ (kind n : ℕ) (block : Bytes) (made : ℕ) (b b′ r r′ : Bytes) (a 
       go false e =
           let d : made ≡ 4 * (spanOf kind - 1) → ⊥ = eqb-false _ _ e in
           let k : made ≤ 4 * (spanOf kind - 1) = al .early in
-          let f : x ≡ false = early-is (turn-again kind n block made b r al h (omega arith)) in
-          let z : _≡_ {A = ℕ} 0 1 = true-false x t f in absurd (omega arith)
+          let f : x ≡ 0 = early-is (turn-again kind n block made b r al h (omega arith)) in
+          absurd (omega arith)
 
-  pub run-on : x ≡ false → (r′ ≡ r) × Alone kind n block (made + 1) b′
+  pub run-on : (x ≡ 1 → ⊥) → (r′ ≡ r) × Alone kind n block (made + 1) b′
   run-on f = go (eqb made (4 * (spanOf kind - 1))) refl
     where
       go : (y : Bool) → eqb made (4 * (spanOf kind - 1)) ≡ y → (r′ ≡ r) × Alone kind n block (made + 1) b′
-      go true e = let t : x ≡ true = last-is (turn-last kind n block made b r al h (eqb-true _ _ e)) in let z : _≡_ {A = ℕ} 0 1 = true-false x t f in absurd (omega arith)
+      go true e = absurd (f (last-is (turn-last kind n block made b r al h (eqb-true _ _ e))))
       go false e =
           let d : made ≡ 4 * (spanOf kind - 1) → ⊥ = eqb-false _ _ e in
           let k : made ≤ 4 * (spanOf kind - 1) = al .early in
@@ -106,8 +105,8 @@ module _ (kind n : ℕ) (block : Bytes) (made : ℕ) (b b′ r r′ : Bytes) (a 
           (er ∙ g .buffer, rw eb (g .alone))
 
 -- the same, where the record buffer is still r₀
-pub run-done : (kind n : ℕ) (block : Bytes) (made : ℕ) (b b′ r₀ r r′ : Bytes) (a : Answer) (x : Bool) → Alone kind n block made b → 64 ≤ length r₀ → r ≡ r₀ → a ≡ turnBoard b r .answer
-    → b′ ≡ turnBoard b r .board → r′ ≡ turnBoard b r .buffer → x ≡ isWritten a → x ≡ true → verdictOf kind n block ≡ accept
+pub run-done : (kind n : ℕ) (block : Bytes) (made : ℕ) (b b′ r₀ r r′ : Bytes) (a : Answer) (x : ℕ) → Alone kind n block made b → 64 ≤ length r₀ → r ≡ r₀ → a ≡ turnBoard b r .answer
+    → b′ ≡ turnBoard b r .board → r′ ≡ turnBoard b r .buffer → x ≡ numberOf a → x ≡ 1 → verdictOf kind n block ≡ accept
     → (0 ≡ refusalBy (verdictOf kind n block)) × (r′ ≡ recordBy kind n block r₀ (verdictOf kind n block))
 run-done kind n block made b b′ r₀ r r′ a x al h e ea eb er ex t v =
     let k : 64 ≤ length r = omega (arith, ap length e) in
@@ -120,19 +119,12 @@ run-never kind n block made b al h = let w = span-within kind in let k : made �
 
 -- ---- the line
 
--- as many bytes over the whole
-whole : (s v : List ℕ) → length v ≡ length s → splice s 0 v ≡ v
-unfolding splice
-whole s v e =
-    let h : length s ≤ 0 + length v = omega arith in
-    sets-eq v s 0 (omega arith) ∙ ap (λ (t : List ℕ). v ++ t) (drop-of-length-le s h) ∙ append-nil v
-
 length-record : (kind n : ℕ) (block : Bytes) → length (recordFor kind n block) ≡ 64
 unfolding recordFor recordOf sealedOf
 length-record kind n block = simp (length-append, length-public, length-sealed)
 
 record-whole : (kind n : ℕ) (block : Bytes) → splice (zeros 64) 0 (recordFor kind n block) ≡ recordFor kind n block
-record-whole kind n block = whole (zeros 64) (recordFor kind n block) (length-record kind n block ∙ sym (length-zeros 64))
+record-whole kind n block = splice-whole (zeros 64) (recordFor kind n block) (length-record kind n block ∙ sym (length-zeros 64))
 
 -- `l` stands at the start of s′, the rest of which is that of s, and is `end` bytes long
 abbrev pub Stored : (s s′ : List ℕ) (end : ℕ) → List ℕ → Type 0

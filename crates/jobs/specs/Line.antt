@@ -1,12 +1,9 @@
 -- The line that a request is answered with: its job is submitted to queue 0 of a fresh board and has its turns. Definitions only.
 use Prim.Native.Nat.{ℕ}
-use mathlib.Core.Bool.{Bool, false}
 use lib.ListN.{length, getD}
-use lib.Dec.{eqb}
 use Rattle.buf.specs.Bytes.{part, splice}
 use Rattle.schedule.specs.Spans.{spanOf}
 use Rattle.schedule.specs.Schedule.{Held, Verdict, accept, refuse, submitVerdict}
-use Rattle.board_spec.specs.Board.{Answer, Refused, Ticket, Turned, Shown}
 use Rattle.board_spec.specs.Run.{Bytes, recordOf}
 use Rattle.text.specs.Line.{newline, numberText, lineOf}
 
@@ -34,18 +31,6 @@ replyOf request = lineBy (getD request 0 0) (getD request 1 0) (part request 2 6
 -- ---- what the parts of the code do
 
 -- a refusal's number, else 0
-unfoldable pub refusalOf : Answer → ℕ
-refusalOf (Refused number) = number
-refusalOf (Ticket ticket) = 0
-refusalOf (Turned answer) = 0
-refusalOf (Shown evaluations density) = 0
-
-unfoldable pub isWritten : Answer → Bool
-isWritten (Refused number) = false
-isWritten (Ticket ticket) = false
-isWritten (Turned answer) = eqb answer 1
-isWritten (Shown evaluations density) = false
-
 unfoldable pub refusalBy : Verdict → ℕ
 refusalBy accept = 0
 refusalBy (refuse number) = number

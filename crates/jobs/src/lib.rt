@@ -4,9 +4,7 @@ ghost use mathlib.Core.Path.{_≡_};
 ghost use Prim.Native.Nat.{_≤_};
 ghost use lib.ListN.{length};
 ghost use Rattle.buf.specs.Bytes.{splice};
-ghost use Rattle.jobs.specs.Line.{refusalOf, isWritten, verdictOf, refusalBy, recordBy, replyOf};
-ghost use Rattle.calls.specs.Calls.{answerOf};
-use calls::Told;
+ghost use Rattle.jobs.specs.Line.{verdictOf, refusalBy, recordBy, replyOf};
 use libc::STDIN_FILENO;
 use libc::STDOUT_FILENO;
 
@@ -16,28 +14,6 @@ fn wide(x: u8) -> u64
     x as u64
 }
 
-fn refusal(told: Told) -> u64
-    ensures { λ r. ⌜ r ≡ refusalOf (answerOf told) ⌝ }
-{
-    match told {
-        Told::Refused(number) => number,
-        Told::Ticket(_) => 0,
-        Told::Turned(_) => 0,
-        Told::Shown(_, _) => 0,
-    }
-}
-
-fn written(told: Told) -> bool
-    ensures { λ r. ⌜ r ≡ isWritten (answerOf told) ⌝ }
-{
-    match told {
-        Told::Refused(_) => false,
-        Told::Ticket(_) => false,
-        Told::Turned(answer) => answer == 1,
-        Told::Shown(_, _) => false,
-    }
-}
-
 // Runs a job on the board, which is cleared first, and writes its record. Answers the submit's refusal, or 0. A span has at most 6,204 turns of
 // the job's queue, every fourth one.
 fn run(board: &mut [u8], kind: u64, n: u64, block: &[u8], record: &mut [u8]) -> u64
@@ -45,13 +21,13 @@ fn run(board: &mut [u8], kind: u64, n: u64, block: &[u8], record: &mut [u8]) -> 
     ensures { λ r. ⌜ (r ≡ refusalBy (verdictOf kind n (now (block .entry)))) × (now («record» .exit) ≡ recordBy kind n (now (block .entry)) (now («record» .entry)) (verdictOf kind n (now (block .entry)))) ⌝ }
 {
     replay::clear(board);
-    let number = refusal(replay::tell_submit(board, 0, kind, n, block));
+    let number = board::number(board::tell_submit(board, 0, kind, n, block));
     if number != 0 {
         return number;
     }
     let mut made: u64 = 0;
     while made < 24816 {
-        if written(replay::tell_turn(board, record)) {
+        if board::number(board::tell_turn(board, record)) == 1 {
             return 0;
         }
         made += 1;

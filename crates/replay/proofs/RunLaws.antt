@@ -20,6 +20,7 @@ use Rattle.calls.specs.declared.types.Found.{Found}
 use Rattle.calls.specs.declared.types.Found.the-variants.{At, End}
 use Rattle.calls.specs.Calls.{Placed, callAt, before, callsFrom, answerBytes, answersBytes, callOf, foundOf, callFits, foundFits}
 use Rattle.calls.proofs.WriteLaws.{length-answer}
+use Rattle.replay.proofs.CallLaws.{splice-whole}
 use Rattle.replay.specs.declared.types.Replayed.the-variants.{BadBoard, Made}
 use Rattle.replay.specs.Replay.{callsFor, replayed, replayDid, MadeCall, MadeRun}
 
@@ -36,16 +37,8 @@ pub clear-end : (s w : List ℕ) (n i : ℕ) → n ≤ i → splice s i (zeros (
 unfolding zeros
 clear-end s w n i h e = let z : n - i ≡ 0 = omega arith in sym (splice-nil s i) ∙ ap (λ (k : ℕ). splice s i (zeros k)) (sym z) ∙ e
 
--- zeros over the whole
-whole-zeros : (s : List ℕ) → splice s 0 (zeros (length s)) ≡ zeros (length s)
-unfolding splice
-whole-zeros s =
-    let l : length (zeros (length s)) ≡ length s = length-zeros (length s) in
-    let h : length s ≤ 0 + length (zeros (length s)) = omega arith in
-    sets-eq (zeros (length s)) s 0 (omega arith) ∙ ap (λ (t : List ℕ). zeros (length s) ++ t) (drop-of-length-le s h) ∙ append-nil (zeros (length s))
-
 pub clear-start : (s : List ℕ) → splice s 0 (zeros (length s - 0)) ≡ zeros (length s)
-clear-start s = ap (λ (k : ℕ). splice s 0 (zeros k)) (sub-zero (length s)) ∙ whole-zeros s
+clear-start s = ap (λ (k : ℕ). splice s 0 (zeros k)) (sub-zero (length s)) ∙ splice-whole s (zeros (length s)) (length-zeros (length s))
 
 -- ---- what is left to do where `made` calls have been made: the rest of the run gives the whole
 

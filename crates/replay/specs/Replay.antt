@@ -8,6 +8,7 @@ use lib.Dec.{eqb}
 use Rattle.buf.specs.Bytes.{splice}
 use Rattle.schedule.specs.Schedule.{Call, events, fresh}
 use Rattle.board_spec.specs.Layout.{boardLength}
+use Rattle.board_spec.specs.Board.{Answer}
 use Rattle.board_spec.specs.Run.{Bytes, Calls, zeroBoard, did, boardAfter, replyBy, replies, fieldsOf, publicOf, publicEvent}
 use Rattle.calls.specs.Calls.{callsFrom, answerBytes, answersBytes}
 use Rattle.replay.specs.declared.types.Replayed.{Replayed}
@@ -39,6 +40,12 @@ replayDid board calls answers =
     (record { answer = BadBoard; board = board; answers = answers })
 
 -- ---- what the parts of the code do
+
+-- a call is made with a record buffer that is the start of r, and is answered a
+pub record ToldCall (b r : Bytes) (c : Call Bytes) (a : Answer) (b′ r′ : Bytes) : Type 0 where
+  pub answer : a ≡ did b c .answer
+  pub board : b′ ≡ did b c .board
+  pub buffer : r′ ≡ splice r 0 (did b c .buffer)
 
 -- one call is made, and its answer written at an index
 pub record MadeCall (b w : Bytes) (at : ℕ) (c : Call Bytes) (b′ w′ : Bytes) : Type 0 where

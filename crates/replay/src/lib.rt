@@ -1,12 +1,9 @@
 // A whole run as code: the calls that stand in bytes are made on a fresh board, and what the public sees of each is written.
 mod making;
 mod runs;
-mod telling;
 mod types;
 
+pub use crate::making::tell_call;
 pub use crate::runs::clear;
 pub use crate::runs::replay;
-pub use crate::telling::tell_look;
-pub use crate::telling::tell_submit;
-pub use crate::telling::tell_turn;
 pub use crate::types::Replayed;

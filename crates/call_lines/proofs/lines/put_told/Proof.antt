@@ -1,7 +1,6 @@
 -- `call_lines::lines::put_told` meets its contract. Assumes nothing.
 use Rattle.call_lines.specs.Lines.{refusedWord, ticketWord, lineFor}
-use Rattle.call_lines.proofs.TextLaws.{record-room}
-use Rattle.calls.specs.Calls.{answerOf}
+use Rattle.board.specs.Answers.{answerOf}
 use borrow.Author.Tests.{eq-eqb, ne-eqb}
 use borrow.Author.Needs.{needs}
 use Rattle.call_lines.proofs.lines.put_told.Statement.{statement}
@@ -29,7 +28,7 @@ enum-known-told-3 : tie.Need-enum-known-told-3
 enum-known-told-3 c = search needs
 
 put-written-requires : tie.Need-put-written-requires
-put-written-requires c κs = (search needs, record-room _ _ _ (c .before .before .before .told3 .given .1) (c .before .if1 .taken) (c .before .before .before .before .before .before .before .pre .1))
+put-written-requires c κs = search needs
 
 same-length : tie.Need-same-length
 same-length c = search needs

@@ -1,5 +1,6 @@
 -- `calls::writer::put_answer` meets its contract. Assumes nothing.
-use Rattle.calls.specs.Calls.{answerBytes, answerOf}
+use Rattle.board.specs.Answers.{answerOf}
+use Rattle.calls.specs.Calls.{answerBytes}
 use Rattle.board_spec.specs.Run.{publicOf}
 use borrow.Author.Needs.{needs}
 use Rattle.calls.proofs.writer.put_answer.Statement.{statement}

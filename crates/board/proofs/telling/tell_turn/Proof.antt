@@ -1,8 +1,8 @@
--- `replay::telling::tell_turn` meets its contract. Assumes nothing.
+-- `board::telling::tell_turn` meets its contract. Assumes nothing.
 use mathlib.Core.Path.{_∙_}
 use borrow.Author.Needs.{needs}
-use Rattle.replay.proofs.telling.tell_turn.Statement.{statement}
-use Rattle.replay.proofs.telling.tell_turn.Tie as tie
+use Rattle.board.proofs.telling.tell_turn.Statement.{statement}
+use Rattle.board.proofs.telling.tell_turn.Tie as tie
 
 turn-requires : tie.Need-turn-requires
 turn-requires c κs = search needs

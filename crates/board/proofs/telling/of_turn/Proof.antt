@@ -1,9 +1,8 @@
--- `replay::telling::of_turn` meets its contract. Assumes nothing.
-use Rattle.board.specs.Answers.{turnedOf}
-use Rattle.calls.specs.Calls.{answerOf}
+-- `board::telling::of_turn` meets its contract. Assumes nothing.
+use Rattle.board.specs.Answers.{turnedOf, answerOf}
 use borrow.Author.Needs.{needs}
-use Rattle.replay.proofs.telling.of_turn.Statement.{statement}
-use Rattle.replay.proofs.telling.of_turn.Tie as tie
+use Rattle.board.proofs.telling.of_turn.Statement.{statement}
+use Rattle.board.proofs.telling.of_turn.Tie as tie
 
 enum-told : tie.Need-enum-told
 enum-told c = search needs

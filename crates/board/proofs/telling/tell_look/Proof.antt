@@ -1,8 +1,8 @@
--- `replay::telling::tell_look` meets its contract. Assumes nothing.
+-- `board::telling::tell_look` meets its contract. Assumes nothing.
 use mathlib.Core.Path.{_∙_}
 use borrow.Author.Needs.{needs}
-use Rattle.replay.proofs.telling.tell_look.Statement.{statement}
-use Rattle.replay.proofs.telling.tell_look.Tie as tie
+use Rattle.board.proofs.telling.tell_look.Statement.{statement}
+use Rattle.board.proofs.telling.tell_look.Tie as tie
 
 look-requires : tie.Need-look-requires
 look-requires c κs = search needs

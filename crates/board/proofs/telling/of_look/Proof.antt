@@ -1,9 +1,8 @@
--- `replay::telling::of_look` meets its contract. Assumes nothing.
-use Rattle.board.specs.Answers.{lookedOf}
-use Rattle.calls.specs.Calls.{answerOf}
+-- `board::telling::of_look` meets its contract. Assumes nothing.
+use Rattle.board.specs.Answers.{lookedOf, answerOf}
 use borrow.Author.Needs.{needs}
-use Rattle.replay.proofs.telling.of_look.Statement.{statement}
-use Rattle.replay.proofs.telling.of_look.Tie as tie
+use Rattle.board.proofs.telling.of_look.Statement.{statement}
+use Rattle.board.proofs.telling.of_look.Tie as tie
 
 enum-told : tie.Need-enum-told
 enum-told c = search needs

@@ -1,9 +1,8 @@
--- `replay::telling::of_submit` meets its contract. Assumes nothing.
-use Rattle.board.specs.Answers.{submittedOf}
-use Rattle.calls.specs.Calls.{answerOf}
+-- `board::telling::of_submit` meets its contract. Assumes nothing.
+use Rattle.board.specs.Answers.{submittedOf, answerOf}
 use borrow.Author.Needs.{needs}
-use Rattle.replay.proofs.telling.of_submit.Statement.{statement}
-use Rattle.replay.proofs.telling.of_submit.Tie as tie
+use Rattle.board.proofs.telling.of_submit.Statement.{statement}
+use Rattle.board.proofs.telling.of_submit.Tie as tie
 
 enum-told : tie.Need-enum-told
 enum-told c = search needs

@@ -1,8 +1,8 @@
--- `replay::telling::tell_submit` meets its contract. Assumes nothing.
+-- `board::telling::tell_submit` meets its contract. Assumes nothing.
 use mathlib.Core.Path.{_∙_}
 use borrow.Author.Needs.{needs}
-use Rattle.replay.proofs.telling.tell_submit.Statement.{statement}
-use Rattle.replay.proofs.telling.tell_submit.Tie as tie
+use Rattle.board.proofs.telling.tell_submit.Statement.{statement}
+use Rattle.board.proofs.telling.tell_submit.Tie as tie
 
 submit-requires : tie.Need-submit-requires
 submit-requires c κs = search needs
