@@ -1,4 +1,5 @@
--- A board that passes 6 passes it after every call, reached from zero bytes or not. Statements only; `passes-on` in proofs/Fits.antt proves them.
+-- "6 board of another length or a stored number outside its range": a board that passes 6 passes it after every call, reached from zero bytes or not.
+-- Statements only; `passes-on` in proofs/Fits.antt proves them.
 use mathlib.Core.Path.{_≡_}
 use mathlib.Core.Bool.{true}
 use Rattle.schedule.specs.Schedule.{Call}

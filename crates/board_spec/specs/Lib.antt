@@ -3,6 +3,6 @@ pub mod Quarter
 pub mod Board
 pub mod Run
 pub mod Rep
-pub mod Demand3
 pub mod Stored
 pub mod Fits
+pub mod Demand3
