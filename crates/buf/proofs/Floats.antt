@@ -8,18 +8,11 @@ use lib.Dec.{T, leb}
 use lib.Ieee.{Float, binary64, ofBits, toBits, fits}
 use lib.Ieee.Bits.{ofBits-toBits, toBits-lt, ofBits-fits}
 use Rattle.buf.specs.Bytes.{numAt, f64At, putF64}
-use Rattle.buf.proofs.Laws.{get-put-same, get-put-before, get-put-after}
+use Rattle.buf.proofs.Laws.{get-put-same}
 
 -- a value that fits is read back
 pub f64-same : (s : List ℕ) (i : ℕ) (x : Float) → leb (i + 8) (length s) ≡ true → T (fits binary64 x) → f64At (putF64 s i x) i ≡ x
 f64-same s i x h k = ap (ofBits binary64) (get-put-same 8 s i (toBits binary64 x) h (toBits-lt binary64 x k)) ∙ ofBits-toBits binary64 x k
-
--- and one elsewhere is as it was
-pub f64-before : (s : List ℕ) (i : ℕ) (x : Float) (j : ℕ) → leb (j + 8) i ≡ true → f64At (putF64 s i x) j ≡ f64At s j
-f64-before s i x j h = ap (ofBits binary64) (get-put-before 8 8 s i _ j h)
-
-pub f64-after : (s : List ℕ) (i : ℕ) (x : Float) (j : ℕ) → leb (i + 8) j ≡ true → f64At (putF64 s i x) j ≡ f64At s j
-f64-after s i x j h = ap (ofBits binary64) (get-put-after 8 8 s i _ j h)
 
 -- what is read fits
 pub f64-fits : (s : List ℕ) (i : ℕ) → T (fits binary64 (f64At s i))

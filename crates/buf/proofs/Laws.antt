@@ -5,7 +5,7 @@ use mathlib.Core.Bool.{true}
 use mathlib.Core.List.{List, [], _∷_, _++_, append-assoc}
 use native.Mathlib.Omega.{arith}
 use native.Mathlib.Nat.{le-of-suc-le-suc, not-suc-le-zero, pow-suc, add-zero, add-suc, sub-zero}
-use lib.ListN.{length, take, drop, getD, set, length-replicate, length-take, length-drop, drop-of-length-le, take-append-drop}
+use lib.ListN.{length, take, drop, getD, set, length-replicate, length-take, length-drop, drop-of-length-le}
 use lib.Seq.{sets, sets-eq, length-sets, drop-cons, drop-set-lt, take-set-le, take-set-lt, drop-set-add, drop-drop, take-take, take-at, drop-at, length-take-le}
 use lib.Dec.{leb}
 use borrow.Author.Tests.{leb-true}
@@ -250,14 +250,6 @@ lent-part s a k n e = ap (λ (m : ℕ). take m (drop a s)) e
 pub lent-back : (s v : List ℕ) (a k n : ℕ) → k ≡ n → length v ≡ n → a + n ≤ length s → take a s ++ (v ++ drop k (drop a s)) ≡ splice s a v
 lent-back s v a k n e l h = ap (λ (m : ℕ). take a s ++ (v ++ drop m (drop a s))) e ∙ lent s v a n l h
 
--- a part put back as it was
-pub splice-part : (s : List ℕ) (a n : ℕ) → a + n ≤ length s → splice s a (part s a n) ≡ s
-unfolding part
-splice-part s a n h =
-    sym (lent s (part s a n) a n (length-part s a n h) h)
-    ∙ ap (λ (l : List ℕ). take a s ++ l) (take-append-drop n (drop a s))
-    ∙ take-append-drop a s
-
 -- ---- a list of zeros
 take-drop-zeros : (n a k : ℕ) → a + k ≤ n → take k (drop a (zeros n)) ≡ zeros k
 unfolding zeros
@@ -283,24 +275,3 @@ part-zeros n a k h = take-drop-zeros n a k h
 pub numAt-zeros : (k n a : ℕ) → leb (a + k) n ≡ true → numAt k (zeros n) a ≡ 0
 unfolding numAt
 numAt-zeros k n a h = ap le (part-zeros n a k (leb-true (a + k) n h)) ∙ le-zeros k
-
--- ---- a move down
-pub move-step : (s w : List ℕ) (to from n i : ℕ) → i < n → to ≤ from → from + n ≤ length s → splice s (to + i) (part s (from + i) (n - i)) ≡ w
-    → splice (set s (to + i) (getD s (from + i) 0)) (to + (i + 1)) (part (set s (to + i) (getD s (from + i) 0)) (from + (i + 1)) (n - (i + 1))) ≡ w
-move-step s w to from n i h k l e =
-    let x = getD s (from + i) 0 in
-    let e₁ : n - i ≡ suc (n - (i + 1)) = omega arith in
-    let e₂ : suc (to + i) ≡ to + (i + 1) = omega arith in
-    let e₃ : suc (from + i) ≡ from + (i + 1) = omega arith in
-    ap (splice (set s (to + i) x) (to + (i + 1))) (part-set-after s (to + i) x (from + (i + 1)) (n - (i + 1)) (omega arith))
-    ∙ sym
-    (ap (λ (m : ℕ). splice s (to + i) (part s (from + i) m)) e₁
-    ∙ ap (splice s (to + i)) (part-cons s (from + i) (n - (i + 1)) (omega arith))
-    ∙ splice-cons s (to + i) x (part s (suc (from + i)) (n - (i + 1)))
-    ∙ ap (λ (m : ℕ). splice (set s (to + i) x) m (part s (suc (from + i)) (n - (i + 1)))) e₂
-    ∙ ap (λ (m : ℕ). splice (set s (to + i) x) (to + (i + 1)) (part s m (n - (i + 1)))) e₃)
-    ∙ e
-
-pub move-end : (s w : List ℕ) (to from n i : ℕ) → n ≤ i → splice s (to + i) (part s (from + i) (n - i)) ≡ w → s ≡ w
-unfolding part splice
-move-end s w to from n i h e = let z : n - i ≡ 0 = omega arith in ap (λ (k : ℕ). splice s (to + i) (part s (from + i) k)) (sym z) ∙ e

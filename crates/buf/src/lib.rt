@@ -2,7 +2,7 @@
 ghost use mathlib.Core.Path.{_≡_};
 ghost use Prim.Native.Nat.{_+_, _≤_, _<_};
 ghost use lib.ListN.{length};
-ghost use Rattle.buf.specs.Bytes.{numAt, putNum, part, splice, u64At, putU64, f64At, putF64};
+ghost use Rattle.buf.specs.Bytes.{numAt, putNum, splice, u64At, putU64, f64At, putF64};
 
 fn wide(x: u8) -> u64
     ensures { λ r. ⌜ (r ≡ x) × (r < 256) ⌝ }
@@ -46,18 +46,6 @@ pub fn put_part(s: &mut [u8], at: usize, b: &[u8])
     let mut i: usize = 0;
     while i < b.len() {
         s[at + i] = b[i];
-        i = i + 1;
-    }
-}
-
-// Moves the n bytes at index from down to index to.
-pub fn move_down(s: &mut [u8], to: usize, from: usize, n: usize)
-    requires { ⌜ (to ≤ from) × (from + n ≤ length (now s)) ⌝ }
-    ensures { λ _. ⌜ now (s .exit) ≡ splice (now (s .entry)) to (part (now (s .entry)) from n) ⌝ }
-{
-    let mut i: usize = 0;
-    while i < n {
-        s[to + i] = s[from + i];
         i = i + 1;
     }
 }

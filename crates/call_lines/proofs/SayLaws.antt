@@ -1,6 +1,6 @@
 -- One call made and its line stored. Assumes nothing.
 use mathlib.Core.Path.{_≡_, refl, sym, ap, _∙_}
-use Prim.Native.Nat.{ℕ, _+_, _≤_}
+use Prim.Native.Nat.{ℕ, _+_}
 use mathlib.Core.Bool.{Bool, true, false, cond}
 use native.Mathlib.Omega.{arith}
 use lib.ListN.{length}
@@ -43,5 +43,5 @@ unfolding replyBy
 call-said s b b′ w w′ r′ c t end f h l =
     let m : ToldCall b (zeros 256) (callOf s c) (answerOf t) b′ r′ = told-zeros s c f h in
     let e : lineFor (answerOf t) r′ ≡ lineFor (did b (callOf s c) .answer) (did b (callOf s c) .buffer) =
-        line-start (answerOf t) r′ (did b (callOf s c) .buffer) (record-start m (omega (arith, length-zeros 256))) ∙ ap (λ (a : Answer). lineFor a (did b (callOf s c) .buffer)) (m .answer) in
+    line-start (answerOf t) r′ (did b (callOf s c) .buffer) (record-start m (omega (arith, length-zeros 256))) ∙ ap (λ (a : Answer). lineFor a (did b (callOf s c) .buffer)) (m .answer) in
     record { board = m .board; line = rw e at l }

@@ -1,13 +1,10 @@
 -- Texts stored one after the other make a line. Assumes nothing.
 use mathlib.Core.Path.{_≡_, refl, sym, ap, _∙_}
 use Prim.Native.Nat.{ℕ, _+_, _≤_}
-use mathlib.Core.Bool.{true, cond}
-use mathlib.Core.List.{List, [], _∷_, _++_}
+use mathlib.Core.List.{[], _∷_, _++_}
 use native.Mathlib.Omega.{arith}
 use lib.ListN.{length, set, length-append}
-use lib.Dec.{leb, eqb}
 use lib.Ieee.{Float, binary64, toBits}
-use borrow.Author.Tests.{leb-true, eq-eqb, ne-eqb}
 use Rattle.buf.specs.Bytes.{splice, numAt, u64At}
 use Rattle.buf.proofs.Laws.{splice-append}
 use Rattle.board_spec.specs.Run.{Bytes}

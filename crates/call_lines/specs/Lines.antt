@@ -1,10 +1,10 @@
 -- The readable line of a call's reply. Definitions only.
 use mathlib.Core.Path.{_≡_}
 use Prim.Native.Nat.{ℕ, _≤_}
-use mathlib.Core.Bool.{Bool, true, cond}
-use mathlib.Core.List.{List, [], _∷_, _++_}
+use mathlib.Core.Bool.{cond}
+use mathlib.Core.List.{[], _∷_, _++_}
 use lib.ListN.{length}
-use lib.Dec.{leb, eqb}
+use lib.Dec.{eqb}
 use lib.Ieee.{Float, binary64, toBits}
 use Rattle.buf.specs.Bytes.{splice, numAt, u64At}
 use Rattle.schedule.specs.Schedule.{Call}

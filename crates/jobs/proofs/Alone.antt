@@ -1,18 +1,18 @@
 -- One job alone on a board, from its submit to its record: every fourth turn is its own, and its span's last writes the record. Assumes nothing.
-use mathlib.Core.Path.{_≡_, refl, sym, ap, _∙_}
-use Prim.Native.Nat.{ℕ, zero, suc, _+_, _-_, _*_, _/_, _%_, _^_, _≤_, _<_}
+use mathlib.Core.Path.{_≡_, refl, ap, _∙_}
+use Prim.Native.Nat.{ℕ, _+_, _-_, _*_, _/_, _%_, _≤_, _<_}
 use mathlib.Core.Bool.{Bool, true, false, cond}
 use mathlib.Core.List.{List, [], _∷_}
 use mathlib.Core.Option.{Option, none, some}
 use native.Mathlib.Omega.{arith}
 use lib.ListN.{length}
-use lib.Dec.{leb, eqb}
+use lib.Dec.{eqb}
 use borrow.Author.Tests.{le-leb, eq-eqb, ne-eqb, eqb-true, eqb-false}
 use Rattle.buf.specs.Bytes.{splice}
 use Rattle.schedule.specs.Spans.{spanOf}
-use Rattle.schedule.specs.Schedule.{Held, Queue, Schedule, Call, Submit, Turn, Event, served, Undergone, Verdict, accept, refuse, turnVerdict, submitVerdict, verdict, serves, onward, turned, undergo, put, entered, withJobs, submitted, turnTaken, acts, judged, happens, fresh}
+use Rattle.schedule.specs.Schedule.{Held, Schedule, Submit, Turn, Undergone, Verdict, accept, refuse, turnVerdict, verdict, serves, onward, turned, undergo, put, entered, withJobs, submitted, turnTaken, acts, judged, happens, fresh}
 use Rattle.schedule.proofs.Tests.{span-within}
-use Rattle.board_spec.specs.Board.{Answer, Refused, Ticket, Turned, submitBoard, turnBoard}
+use Rattle.board_spec.specs.Board.{Refused, Ticket, Turned, submitBoard, turnBoard}
 use Rattle.board_spec.specs.Run.{Bytes, zeroBoard, did, Reply, replyBy, bufferOf, recordOf, turnReply, replyOf}
 use Rattle.board_spec.specs.Rep.{Rep}
 use Rattle.board_spec.proofs.Sim.{simulates, zero-rep}

@@ -1,11 +1,10 @@
 -- A job's run on a cleared board, and the line of its record. Assumes nothing.
 use mathlib.Core.Path.{_≡_, refl, sym, ap, _∙_}
-use Prim.Native.Nat.{ℕ, _+_, _-_, _*_, _≤_, _<_}
-use mathlib.Core.Bool.{Bool, true, false, cond}
-use mathlib.Core.List.{List, _++_, append-nil}
+use Prim.Native.Nat.{ℕ, _+_, _-_, _*_, _≤_}
+use mathlib.Core.Bool.{Bool, true, false}
+use mathlib.Core.List.{List}
 use native.Mathlib.Omega.{arith}
-use lib.ListN.{length, getD, take, drop, drop-of-length-le, length-append}
-use lib.Seq.{sets-eq}
+use lib.ListN.{length, getD, take, drop, length-append}
 use lib.Dec.{leb, ltb, eqb}
 use borrow.Author.Tests.{eqb-true, eqb-false}
 use Rattle.buf.specs.Bytes.{part, zeros, splice}
@@ -16,7 +15,7 @@ use Rattle.schedule.specs.Spans.{kindFits, countFits, spanOf}
 use Rattle.schedule.specs.Schedule.{Verdict, accept, refuse, check, submitVerdict}
 use Rattle.schedule.proofs.Tests.{span-within}
 use Rattle.board_spec.specs.Layout.{boardLength}
-use Rattle.board_spec.specs.Board.{Answer, Refused, Ticket, Turned, submitBoard, turnBoard}
+use Rattle.board_spec.specs.Board.{Answer, submitBoard, turnBoard}
 use Rattle.board_spec.specs.Run.{Bytes, zeroBoard, recordOf}
 use Rattle.text.specs.Line.{newline, numberText, lineOf}
 use Rattle.board.specs.Answers.{numberOf}

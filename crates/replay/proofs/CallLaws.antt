@@ -2,7 +2,7 @@
 use mathlib.Core.Path.{_≡_, refl, sym, ap, _∙_}
 use Prim.Native.Nat.{ℕ, _+_, _-_, _≤_, _<_}
 use mathlib.Core.Bool.{Bool, true, false, cond}
-use mathlib.Core.List.{List, [], _++_, append-nil}
+use mathlib.Core.List.{[], _++_, append-nil}
 use native.Mathlib.Omega.{arith}
 use lib.ListN.{length, take, drop, length-drop, take-append-drop, drop-of-length-le}
 use lib.Seq.{sets-eq, take-all, length-take-le}
@@ -15,7 +15,7 @@ use Rattle.schedule.specs.Schedule.{Call, Submit, Turn, Look, Verdict, accept, 
 use Rattle.schedule.proofs.Tests.{check-ok, check-next}
 use Rattle.board_spec.specs.Layout.{heldAt, turnsAt}
 use Rattle.board_spec.specs.Quarter.{firstKind, DidQuarter, turnQuarter}
-use Rattle.board_spec.specs.Board.{Answer, Refused, Ticket, Turned, Shown, Did, refusedDid, boardFits, submitJudged, submitBoard, turnDid, turnJudged, turnBoard, lookJudged, lookBoard}
+use Rattle.board_spec.specs.Board.{Answer, Refused, Ticket, Turned, Shown, refusedDid, boardFits, submitJudged, submitBoard, turnDid, turnJudged, turnBoard, lookJudged, lookBoard}
 use Rattle.board_spec.specs.Run.{Bytes, did, bufferOf, replyBy, Public, turning, publicOf}
 use Rattle.board_spec.proofs.Runs.{look-unchanged}
 use Rattle.board.specs.declared.types.Told.{Told}

@@ -2,18 +2,17 @@
 use mathlib.Core.Path.{_≡_, refl, sym, ap, _∙_}
 use Prim.Native.Nat.{ℕ, zero, suc, _+_, _-_, _*_, _/_, _≤_, _<_}
 use mathlib.Core.Bool.{true}
-use mathlib.Core.List.{List, [], _∷_, _++_, append-nil, map}
+use mathlib.Core.List.{List, [], _∷_, map}
 use mathlib.Core.Option.{Option, none, some}
 use native.Mathlib.Omega.{arith}
 use native.Mathlib.Nat.{sub-zero, zero-add}
-use lib.ListN.{length, set, take, drop, drop-of-length-le}
-use lib.Seq.{sets-eq}
+use lib.ListN.{length, set}
 use borrow.Author.Tests.{eq-eqb, ne-eqb}
 use Rattle.buf.specs.Bytes.{splice, zeros}
 use Rattle.buf.proofs.Laws.{splice-append, splice-cons, splice-nil, length-zeros}
-use Rattle.schedule.specs.Schedule.{Call, events, fresh}
+use Rattle.schedule.specs.Schedule.{Call}
 use Rattle.board_spec.specs.Layout.{boardLength}
-use Rattle.board_spec.specs.Run.{Bytes, Calls, zeroBoard, did, boardAfter, Reply, replyBy, replies, Public, publicOf, publicEvent, fieldsOf}
+use Rattle.board_spec.specs.Run.{Bytes, Calls, zeroBoard, did, boardAfter, replyBy, replies, Public, publicOf}
 use Rattle.board_spec.proofs.Runs.{public-told}
 use Rattle.calls.specs.declared.types.Call as code-call
 use Rattle.calls.specs.declared.types.Found.{Found}

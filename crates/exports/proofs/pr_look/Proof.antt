@@ -1,30 +1,25 @@
+-- `exports::pr_look` meets its contract. Assumes nothing.
+use mathlib.Core.Path.{_∙_, ap}
+use Rattle.board.specs.Answers.{numberOf}
+use Rattle.board.proofs.AnswerLaws.{sight-said, sight-kept}
 use borrow.Author.Needs.{needs}
 use Rattle.exports.proofs.pr_look.Statement.{statement}
 use Rattle.exports.proofs.pr_look.Tie as tie
-use Rattle.exports.proofs.pr_look.Reads as reads
-use Rattle.exports.proofs.pr_look.Lts as lts
-use Rattle.board.proofs.number.Reads as number-reads
-use Rattle.board.proofs.tell_look.Reads as tell-look-reads
 
--- src/lib.rt:301:9
 tell-look-requires : tie.Need-tell-look-requires
 tell-look-requires c κs = search needs
 
--- src/lib.rt:302:21
 enum-known-told : tie.Need-enum-known-told
 enum-known-told c = search needs
 
--- src/lib.rt:303:9
 number-requires : tie.Need-number-requires
 number-requires c κs = search needs
 
--- src/lib.rt:303:9
 returns : tie.Need-returns
-returns c = ?
+returns c = let k = sight-kept _ _ (c .before .before .tell-look .ensures) _ _ (c .before .match .keys2) in (c .number .ensures ∙ ap numberOf (c .before .before .tell-look .ensures), k .0, k .1)
 
--- src/lib.rt:297:1
 returns-2 : tie.Need-returns-2
-returns-2 c = ?
+returns-2 c = let s = sight-said _ _ (c .before .before .before .tell-look .ensures) _ _ _ _ (c .before .told .given .1) in (s .0, s .1, s .2)
 
 pub pr-look-spec : {M : Type 1} → statement M
 pr-look-spec =
