@@ -75,20 +75,24 @@ Few b = (m : ℕ) × (j : ℕ) × (m < 2 ^ 53) × (b ≡ m * 2 ^ j)
 pow-le-back : (i p : ℕ) → 2 ^ i ≤ 2 ^ p → i ≤ p
 pow-le-back i p h = le-of-suc-le-suc (lt-of-not-le (λ (g : suc p ≤ i). not-le-of-lt (pow-lt g) h))
 
+-- the units of 1 in two parts
+in-parts : (k : ℕ) → k ≤ 1074 → 2 ^ 1074 ≡ 2 ^ (1074 - k) * 2 ^ k
+in-parts k l = ap (λ (x : ℕ). 2 ^ x) (back k l) ∙ pow-add 2 (1074 - k) k
+  where
+    back : (k : ℕ) → k ≤ 1074 → 1074 ≡ 1074 - k + k
+    back k l = omega arith
+
 few : (m b : ℕ) (e : ℤ) → m < 2 ^ 53 → down e ≤ 2 ^ 1074 → m * up e * 2 ^ 1074 ≡ b * down e → Few b
 few m b (pos a) M d v = (m, a + 1074, M, sym (mul-one b) ∙ sym v ∙ mul-assoc m (2 ^ a) (2 ^ 1074) ∙ ap (λ (x : ℕ). m * x) (sym (pow-add 2 a 1074)))
 few m b (negsuc a) M d v =
     let l : suc a ≤ 1074 = pow-le-back (suc a) 1074 d in
-    let t : 2 ^ 1074 ≡ 2 ^ (1074 - suc a) * 2 ^ suc a = ap (λ (x : ℕ). 2 ^ x) (back (suc a) l) ∙ pow-add 2 (1074 - suc a) (suc a) in (
+    (
       m,
       1074 - suc a,
       M,
       eq-of-mul-eq-mul-right (2 ^ suc a) (pow-pos (suc a)) b (m * 2 ^ (1074 - suc a))
-          (sym v ∙ ap (λ (x : ℕ). x * 2 ^ 1074) (mul-one m) ∙ ap (λ (x : ℕ). m * x) t ∙ sym (mul-assoc m (2 ^ (1074 - suc a)) (2 ^ suc a))),
+          (sym v ∙ ap (λ (x : ℕ). x * 2 ^ 1074) (mul-one m) ∙ ap (λ (x : ℕ). m * x) (in-parts (suc a) l) ∙ sym (mul-assoc m (2 ^ (1074 - suc a)) (2 ^ suc a))),
     )
-  where
-    back : (k : ℕ) → k ≤ 1074 → 1074 ≡ 1074 - k + k
-    back k l = omega arith
 
 pub shape : (y : Float) (b : ℕ) → T (fits binary64 y) → HasValue y false b (2 ^ 1074) → Few b
 unfolding fits
@@ -263,11 +267,8 @@ exact m (pos a) d = by-one (m * 2 ^ a * 2 ^ 1074)
 exact m (negsuc a) d =
     let l : suc a ≤ 1074 = pow-le-back (suc a) 1074 d in
     let k = m * 2 ^ (1074 - suc a) in
-    let t : m * 1 * 2 ^ 1074 ≡ m * 2 ^ (1074 - suc a) * 2 ^ suc a = ap (λ (x : ℕ). x * 2 ^ 1074) (mul-one m) ∙ ap (λ (x : ℕ). m * x) (ap (λ (x : ℕ). 2 ^ x) (back (suc a) l) ∙ pow-add 2 (1074 - suc a) (suc a)) ∙ sym (mul-assoc m (2 ^ (1074 - suc a)) (2 ^ suc a)) in
+    let t : m * 1 * 2 ^ 1074 ≡ m * 2 ^ (1074 - suc a) * 2 ^ suc a = ap (λ (x : ℕ). x * 2 ^ 1074) (mul-one m) ∙ ap (λ (x : ℕ). m * x) (in-parts (suc a) l) ∙ sym (mul-assoc m (2 ^ (1074 - suc a)) (2 ^ suc a)) in
     t ∙ ap (λ (x : ℕ). x * 2 ^ suc a) (sym (mul-div-cancel k (pow-pos (suc a)))) ∙ ap (λ (x : ℕ). x / 2 ^ suc a * 2 ^ suc a) (sym t)
-  where
-    back : (k : ℕ) → k ≤ 1074 → 1074 ≡ 1074 - k + k
-    back k l = omega arith
 
 pub units-exact : (x : Float) → T (fits binary64 x) → finiteOf x ≡ true → HasValue x (negativeOf x) (unitsOf x) (2 ^ 1074)
 unfolding fits finiteOf negativeOf unitsOf

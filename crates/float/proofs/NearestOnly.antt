@@ -1,12 +1,12 @@
 -- What specs/Nearest.antt says of a root is true of one value: half way between two nearest ones would lie a third, and nearer. Assumes nothing.
-use mathlib.Core.Path.{_≡_, refl, sym, ap, _∙_, subst}
-use Prim.Native.Nat.{ℕ, zero, suc, _+_, _-_, _*_, _/_, _%_, _^_, _≤_, _<_, compare, Ordering, Ordering·lt, Ordering·eq, Ordering·gt}
+use mathlib.Core.Path.{_≡_, sym, ap, _∙_, subst}
+use Prim.Native.Nat.{ℕ, zero, suc, _+_, _*_, _/_, _%_, _^_, _≤_, _<_, compare, Ordering, Ordering·lt, Ordering·eq, Ordering·gt}
 use native.Mathlib.Nat.{le-trans, le-of-eq, lt-trans, lt-of-not-le, not-le-of-lt, mul-assoc, mul-one, mul-le-mul, add-zero, pow-succ'}
 use native.Mathlib.Omega.{arith}
-use mathlib.Core.Bool.{Bool, true, false, cond, false≢true}
+use mathlib.Core.Bool.{Bool, true, false}
 use lib.Dec.{T, lit≤}
 use lib.Pow.{pow-add, pow-pos}
-use lib.Ieee.{Float, nan, inf, fin, binary64, prec, hid, top, size, fits, lt, round, ofBits, toBits}
+use lib.Ieee.{Float, binary64, fits, lt, round, ofBits}
 use lib.Ieee.Fits.{round-fits}
 use lib.Ieee.Bits.{ofBits-toBits}
 use lib.Ieee.Exact.{HasValue, round-exact}
@@ -14,20 +14,12 @@ use Rattle.float.specs.Ops.{f0}
 use Rattle.float.specs.Sign.{finiteOf, negativeOf}
 use Rattle.float.specs.Nearest.{unitsOf, AsNear, NearestRoot}
 use Rattle.float.proofs.Cmp.{Cmp, cmp}
+use Rattle.float.proofs.Rounding.{toBits-of}
 use Rattle.float.proofs.Nearest.{Few, shape, units-lt, units-exact, of-value, positive-units}
 
--- ---- a value is told by its sign and its units
-pattern : Bool → ℕ → ℕ
-pattern s n = let k = size n - prec binary64 in cond s (top binary64) 0 + k * hid binary64 + n / 2 ^ k
-
-pattern-of : (x : Float) → finiteOf x ≡ true → toBits binary64 x ≡ pattern (negativeOf x) (unitsOf x)
-unfolding toBits finiteOf negativeOf unitsOf pattern
-pattern-of nan h = absurd (false≢true h)
-pattern-of (inf s) h = absurd (false≢true h)
-pattern-of (fin s m e) h = refl
-
-same-value : (r q : Float) → T (fits binary64 r) → T (fits binary64 q) → finiteOf r ≡ true → finiteOf q ≡ true → negativeOf r ≡ negativeOf q → unitsOf r ≡ unitsOf q → r ≡ q
-same-value r q F G f g s u = sym (ofBits-toBits binary64 r F) ∙ ap (ofBits binary64) (pattern-of r f ∙ (λ i. pattern (s i) (u i)) ∙ sym (pattern-of q g)) ∙ ofBits-toBits binary64 q G
+-- ---- a value is told by its units
+same-value : (r q : Float) (a : ℕ) → T (fits binary64 r) → T (fits binary64 q) → HasValue r false a (2 ^ 1074) → HasValue q false a (2 ^ 1074) → r ≡ q
+same-value r q a F G v w = sym (ofBits-toBits binary64 r F) ∙ ap (ofBits binary64) (toBits-of r a v ∙ sym (toBits-of q a w)) ∙ ofBits-toBits binary64 q G
 
 -- ---- the root of a square of few digits has few digits
 half-root : (s v : ℕ) → s * s ≡ 4 * v → (h : ℕ) × (s ≡ 2 * h) × (h * h ≡ v)
@@ -66,6 +58,9 @@ module _ (x : Float) (F : T (fits binary64 x)) (f : finiteOf x ≡ true) (p : lt
   unfolding v
   near r y n G g z = subst (λ (s : Bool). AsNear (unitsOf x * 2 ^ 1074) (unitsOf r) s (unitsOf y)) z (n .as-near y G g)
 
+  of-nearest : (r : Float) → NearestRoot x r → HasValue r false (unitsOf r) (2 ^ 1074)
+  of-nearest r n = subst (λ (s : Bool). HasValue r s (unitsOf r) (2 ^ 1074)) (n .not-negative) (units-exact r (n .held) (n .finite))
+
   few-half : (h : ℕ) → h * h ≡ v → Few h
   unfolding v
   few-half h e =
@@ -81,7 +76,7 @@ module _ (x : Float) (F : T (fits binary64 x)) (f : finiteOf x ≡ true) (p : lt
       let s = half-root (a + b) v (squares a b v above below) in
       let h = s .0 in
       let few = few-half h (s .2) in
-      let small : h < 2 ^ 2098 = lt-trans (middle-lt a b h (s .1) l) (units-lt q b (m .held) (subst (λ (s : Bool). HasValue q s b (2 ^ 1074)) (m .not-negative) (units-exact q (m .held) (m .finite)))) in
+      let small : h < 2 ^ 2098 = lt-trans (middle-lt a b h (s .1) l) (units-lt q b (m .held) (of-nearest q m)) in
       let y = round binary64 false h (2 ^ 1074) in
       let w = of-value y false h (at h few small) in
       let c : a < h = middle-gt a b h (s .1) l in
@@ -106,5 +101,5 @@ module _ (x : Float) (F : T (fits binary64 x)) (f : finiteOf x ≡ true) (p : lt
     where
       go : (o : Ordering) → Cmp o (unitsOf r) (unitsOf q) → r ≡ q
       go Ordering·lt l = absurd (no-tie r q n m l)
-      go Ordering·eq e = same-value r q (n .held) (m .held) (n .finite) (m .finite) (n .not-negative ∙ sym (m .not-negative)) e
+      go Ordering·eq e = same-value r q (unitsOf r) (n .held) (m .held) (of-nearest r n) (subst (λ (a : ℕ). HasValue q false a (2 ^ 1074)) (sym e) (of-nearest q m))
       go Ordering·gt l = absurd (no-tie q r m n l)
