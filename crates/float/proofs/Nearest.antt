@@ -10,7 +10,7 @@ use lib.IntN.{ℤ, pos, negsuc}
 use lib.Pow.{pow-add, pow-pos, pow-mono, pow-lt, shl-lt}
 use lib.Ieee.{Float, nan, inf, fin, binary64, up, down, size, nearest, fits, lt, ofBits}
 use lib.Ieee.Digits.{size-lt, size-le, size-reaches}
-use lib.Ieee.Fits.{and-l, and-r, up-pos, down-pos}
+use lib.Ieee.Fits.{and-l, and-r, up-pos, down-pos, round-fits}
 use lib.Ieee.Exact.{HasValue, units-val}
 use lib.Ieee.Nearest.{closest}
 use Rattle.float.specs.Ops.{f0}
@@ -69,26 +69,30 @@ module _ (m j k : ℕ) (M : m < 2 ^ 53) where
       go (no g) = absurd (not-le-of-lt l (le-trans (le-of-lt (fine (lt-of-not-le g))) (mul-le-mul-right (2 ^ k) h)))
 
 -- ---- a value that fits has 53 digits at most
-abbrev Few : ℕ → Type 0
+abbrev pub Few : ℕ → Type 0
 Few b = (m : ℕ) × (j : ℕ) × (m < 2 ^ 53) × (b ≡ m * 2 ^ j)
 
 pow-le-back : (i p : ℕ) → 2 ^ i ≤ 2 ^ p → i ≤ p
 pow-le-back i p h = le-of-suc-le-suc (lt-of-not-le (λ (g : suc p ≤ i). not-le-of-lt (pow-lt g) h))
 
+-- the units of 1 in two parts
+in-parts : (k : ℕ) → k ≤ 1074 → 2 ^ 1074 ≡ 2 ^ (1074 - k) * 2 ^ k
+in-parts k l = ap (λ (x : ℕ). 2 ^ x) (back k l) ∙ pow-add 2 (1074 - k) k
+  where
+    back : (k : ℕ) → k ≤ 1074 → 1074 ≡ 1074 - k + k
+    back k l = omega arith
+
 few : (m b : ℕ) (e : ℤ) → m < 2 ^ 53 → down e ≤ 2 ^ 1074 → m * up e * 2 ^ 1074 ≡ b * down e → Few b
 few m b (pos a) M d v = (m, a + 1074, M, sym (mul-one b) ∙ sym v ∙ mul-assoc m (2 ^ a) (2 ^ 1074) ∙ ap (λ (x : ℕ). m * x) (sym (pow-add 2 a 1074)))
 few m b (negsuc a) M d v =
     let l : suc a ≤ 1074 = pow-le-back (suc a) 1074 d in
-    let t : 2 ^ 1074 ≡ 2 ^ (1074 - suc a) * 2 ^ suc a = ap (λ (x : ℕ). 2 ^ x) (back (suc a) l) ∙ pow-add 2 (1074 - suc a) (suc a) in (
+    (
       m,
       1074 - suc a,
       M,
       eq-of-mul-eq-mul-right (2 ^ suc a) (pow-pos (suc a)) b (m * 2 ^ (1074 - suc a))
-          (sym v ∙ ap (λ (x : ℕ). x * 2 ^ 1074) (mul-one m) ∙ ap (λ (x : ℕ). m * x) t ∙ sym (mul-assoc m (2 ^ (1074 - suc a)) (2 ^ suc a))),
+          (sym v ∙ ap (λ (x : ℕ). x * 2 ^ 1074) (mul-one m) ∙ ap (λ (x : ℕ). m * x) (in-parts (suc a) l) ∙ sym (mul-assoc m (2 ^ (1074 - suc a)) (2 ^ suc a))),
     )
-  where
-    back : (k : ℕ) → k ≤ 1074 → 1074 ≡ 1074 - k + k
-    back k l = omega arith
 
 pub shape : (y : Float) (b : ℕ) → T (fits binary64 y) → HasValue y false b (2 ^ 1074) → Few b
 unfolding fits
@@ -225,7 +229,7 @@ module _ (n : ℕ) (N : 0 < n) (U : n < 2 ^ 2098) where
       (smaller (n * 2 ^ 1074) (sticky (n * 2 ^ 1074)) p Q (m * 2 ^ j) (pow-pos (dropped .0)) (sticky-cmp (n * 2 ^ 1074)) l w g, larger (n * 2 ^ 1074) (sticky (n * 2 ^ 1074)) p Q (m * 2 ^ j) (pow-pos (dropped .0)) (sticky-cmp (n * 2 ^ 1074)) l w g)
 
 -- ---- of values
-units-lt : (x : Float) (n : ℕ) → T (fits binary64 x) → HasValue x false n (2 ^ 1074) → n < 2 ^ 2098
+pub units-lt : (x : Float) (n : ℕ) → T (fits binary64 x) → HasValue x false n (2 ^ 1074) → n < 2 ^ 2098
 units-lt nan n f v = absurd v
 units-lt (inf s) n f v = absurd v
 units-lt (fin true m e) n f v = absurd (true≢false (v .0))
@@ -263,11 +267,8 @@ exact m (pos a) d = by-one (m * 2 ^ a * 2 ^ 1074)
 exact m (negsuc a) d =
     let l : suc a ≤ 1074 = pow-le-back (suc a) 1074 d in
     let k = m * 2 ^ (1074 - suc a) in
-    let t : m * 1 * 2 ^ 1074 ≡ m * 2 ^ (1074 - suc a) * 2 ^ suc a = ap (λ (x : ℕ). x * 2 ^ 1074) (mul-one m) ∙ ap (λ (x : ℕ). m * x) (ap (λ (x : ℕ). 2 ^ x) (back (suc a) l) ∙ pow-add 2 (1074 - suc a) (suc a)) ∙ sym (mul-assoc m (2 ^ (1074 - suc a)) (2 ^ suc a)) in
+    let t : m * 1 * 2 ^ 1074 ≡ m * 2 ^ (1074 - suc a) * 2 ^ suc a = ap (λ (x : ℕ). x * 2 ^ 1074) (mul-one m) ∙ ap (λ (x : ℕ). m * x) (in-parts (suc a) l) ∙ sym (mul-assoc m (2 ^ (1074 - suc a)) (2 ^ suc a)) in
     t ∙ ap (λ (x : ℕ). x * 2 ^ suc a) (sym (mul-div-cancel k (pow-pos (suc a)))) ∙ ap (λ (x : ℕ). x / 2 ^ suc a * 2 ^ suc a) (sym t)
-  where
-    back : (k : ℕ) → k ≤ 1074 → 1074 ≡ 1074 - k + k
-    back k l = omega arith
 
 pub units-exact : (x : Float) → T (fits binary64 x) → finiteOf x ≡ true → HasValue x (negativeOf x) (unitsOf x) (2 ^ 1074)
 unfolding fits finiteOf negativeOf unitsOf
@@ -284,14 +285,14 @@ units-exact (fin s (suc m) e) F h =
     let g = and-l (A && B && C) (ltb (suc m * up e) (2 ^ 1024 * down e)) F in
     (refl, exact (suc m) e (leb→le (down e) (2 ^ 1074) (and-r (A && B) C g)))
 
-of-value : (v : Float) (s : Bool) (a : ℕ) → HasValue v s a (2 ^ 1074) → (unitsOf v ≡ a) × (finiteOf v ≡ true) × (negativeOf v ≡ s)
+pub of-value : (v : Float) (s : Bool) (a : ℕ) → HasValue v s a (2 ^ 1074) → (unitsOf v ≡ a) × (finiteOf v ≡ true) × (negativeOf v ≡ s)
 unfolding finiteOf negativeOf unitsOf
 of-value nan s a h = absurd h
 of-value (inf t) s a h = absurd h
 of-value (fin t m e) s a h = (ap (λ (x : ℕ). x / down e) (h .1) ∙ mul-div-cancel a (down-pos e), refl, h .0)
 
 -- above zero
-positive-units : (x : Float) → T (fits binary64 x) → finiteOf x ≡ true → lt f0 x ≡ true → (negativeOf x ≡ false) × (0 < unitsOf x)
+pub positive-units : (x : Float) → T (fits binary64 x) → finiteOf x ≡ true → lt f0 x ≡ true → (negativeOf x ≡ false) × (0 < unitsOf x)
 unfolding lt ofBits finiteOf negativeOf
 positive-units nan F h p = absurd (false≢true h)
 positive-units (inf s) F h p = absurd (false≢true h)
@@ -302,6 +303,10 @@ positive-units (fin false (suc m) e) F h p = (refl, some (suc m * up e * 2 ^ 107
     some : (n k d : ℕ) → 0 < n → n ≡ k * d → 0 < k
     some n zero d q z = absurd (not-le-of-lt q (le-of-eq (z ∙ zero-mul d)))
     some n (suc k) d q z = zero-lt-suc k
+
+root-fits : (n : ℕ) → T (fits binary64 (rootOf n))
+unfolding rootOf
+root-fits n = round-fits binary64 false (sticky (n * 2 ^ 1074)) (2 ^ 1075)
 
 -- ---- the law: for every finite x above zero, no value of binary64 is nearer to √x than `root x`
 pub root-nearest : (x : Float) → T (fits binary64 x) → finiteOf x ≡ true → lt f0 x ≡ true → NearestRoot x (root x)
@@ -314,6 +319,7 @@ root-nearest x F h p =
     let r = of-value (root x) false a (subst (λ (r : Float). HasValue r false a (2 ^ 1074)) (sym (root-of x n (q .1) v)) (root-units n (q .1) U)) in
     let zero-near : AsNear (n * 2 ^ 1074) a false 0 = root-near n (q .1) U 0 0 (pow-pos 53) in
     record {
+      held = subst (λ (r : Float). T (fits binary64 r)) (sym (root-of x n (q .1) v)) (root-fits n);
       finite = r .1;
       not-negative = r .2;
       as-near = λ y G g. subst (λ (k : ℕ). AsNear (n * 2 ^ 1074) k (negativeOf y) (unitsOf y)) (sym (r .0)) (by-sign n a (near-positive x n F v (q .1)) zero-near y G (negativeOf y) (units-exact y G g));

@@ -1,15 +1,18 @@
--- The rule of 27: left out, it changes nothing where every tested number is finite; and where no part may fail unseen, 27 is the answer exactly where one is not. Assumes nothing.
-use mathlib.Core.Path.{_≡_, refl, ap}
+-- The rule of 27: left out, it changes nothing where every tested number is finite; where no part may fail unseen, 27 is the answer exactly where one is not;
+-- and when a search made of parts answers 27. Assumes nothing.
+use mathlib.Core.Path.{_≡_, refl, sym, ap, _∙_}
 use Prim.Native.Nat.{ℕ, _+_}
 use native.Mathlib.Omega.{arith}
-use mathlib.Core.Bool.{Bool, true, false, cond, not, _&&_}
+use mathlib.Core.Bool.{Bool, true, false, cond, not, _&&_, _||_}
 use lib.Ieee.{Float}
 use Rattle.float.specs.Sign.{finiteOf}
 use Rattle.solver.specs.declared.types.Values.{Values}
 use Rattle.solver.specs.declared.types.Answer.{Answer}
 use Rattle.solver.specs.declared.types.Answer.the-variants.{Found, Refused}
+use Rattle.solver.specs.declared.types.Ran.{Ran}
 use Rattle.solver.specs.Answer.{numberOf, statusOf, is27}
-use Rattle.solver.specs.Search.{Evaluation, Yield, Evaluator, Search, done, ask, test, tested, bind, onFound, andThen, run, clean, Ruled}
+use Rattle.solver.specs.Search.{Evaluation, Yield, Evaluator, Search, done, ask, test, tested, bind, onFound, andThen, run, clean, answerOf, foundAnd, Ruled}
+use Rattle.solver.proofs.Runs.{run-from, run-bind}
 
 -- ---- the Rust itself
 
@@ -37,7 +40,46 @@ exactly-27 ev n (Ruled.tests {x = x} {k = k} e r) = by (finiteOf x) (exactly-27 
     by true h = h
     by false h = rw e
 
+-- ---- parts
+
+-- what follows a part answers for both, whatever was evaluated before
+pub answer-bind : (ev : Evaluator) (t : Search) (f : Answer → Search) → answerOf ev (bind t f) ≡ answerOf ev (f (answerOf ev t))
+answer-bind ev t f = ap (λ (r : Ran). r .answer) (run-bind finiteOf ev 0 t f ∙ run-from finiteOf ev (run finiteOf ev 0 t .evaluations) (f (answerOf ev t)))
+
+or-false : (b : Bool) → b ≡ b || false
+or-false true = refl
+or-false false = refl
+
+-- the Rust's `?`: 27 comes from the part, or from what follows once it is found
+pub then-27 : (ev : Evaluator) (t : Search) (f : Values → Search)
+    → is27 (answerOf ev (andThen t f)) ≡ is27 (answerOf ev t) || foundAnd (answerOf ev t) (λ v. is27 (answerOf ev (f v)))
+unfolding onFound foundAnd run is27 statusOf
+then-27 ev t f = ap is27 (answer-bind ev t (onFound f)) ∙ go (answerOf ev t)
+  where
+    go : (a : Answer) → is27 (answerOf ev (onFound f a)) ≡ is27 a || foundAnd a (λ v. is27 (answerOf ev (f v)))
+    go (Found v) = refl
+    go (Refused r) = or-false (is27 (Refused r))
+
+-- a part whose 27 is told by `first`, and what follows it, whose 27 is told by `later`
+pub then-told : (ev : Evaluator) (t : Search) (f : Values → Search) (first : Bool) (later : Values → Bool) → is27 (answerOf ev t) ≡ first
+    → ((v : Values) → is27 (answerOf ev (f v)) ≡ later v) → is27 (answerOf ev (andThen t f)) ≡ first || foundAnd (answerOf ev t) later
+then-told ev t f first later e g = then-27 ev t f ∙ (λ i. e i || foundAnd (answerOf ev t) (λ v. g v i))
+
+-- nothing that follows a found part answers 27
+pub then-never : (ev : Evaluator) (t : Search) (f : Values → Search) → ((v : Values) → is27 (answerOf ev (f v)) ≡ false) → is27 (answerOf ev (andThen t f)) ≡ is27 (answerOf ev t)
+unfolding foundAnd is27 statusOf
+then-never ev t f g = then-told ev t f (is27 (answerOf ev t)) (λ v. false) refl g ∙ go (answerOf ev t)
+  where
+    go : (a : Answer) → is27 a || foundAnd a (λ v. false) ≡ is27 a
+    go (Found v) = refl
+    go (Refused r) = sym (or-false (is27 (Refused r)))
+
 -- ---- searches that are ruled
+
+-- an answer other than 27
+pub ruled-done : {a : Answer} → is27 a ≡ false → Ruled (done a)
+ruled-done e = Ruled.ended e
+
 pub ruled-asks : {e : Evaluation} {t ρ : Float} {k : Yield e → Search} → ((y : Yield e) → Ruled (k y)) → Ruled (ask e t ρ k)
 ruled-asks f = Ruled.asks f
 

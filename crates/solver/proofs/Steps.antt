@@ -2,8 +2,9 @@
 use mathlib.Core.Path.{_≡_, refl, sym, ap, _∙_}
 use Prim.Native.Nat.{ℕ, zero, suc, _+_, _≤_}
 use native.Mathlib.Omega.{arith}
-use mathlib.Core.Bool.{Bool, true, false, cond}
+use mathlib.Core.Bool.{Bool, true, false, cond, _&&_}
 use lib.Ieee.{Float}
+use Rattle.float.specs.Sign.{finiteOf}
 use Rattle.solver.specs.declared.types.Refusal.the-variants.{NotFinite}
 use Rattle.solver.specs.declared.types.Answer.{Answer}
 use Rattle.solver.specs.Search.{Evaluator, Search, done, ask, test, refuse, tested, bind, run, settle, Going, nextOf, next, after, fresh, Within}
@@ -28,6 +29,19 @@ settle-tested ok x t = go (ok x)
     go : (b : Bool) → settle ok (cond b t (refuse NotFinite)) ≡ cond b (settle ok t) (refuse NotFinite)
     go true = refl
     go false = refl
+
+-- ---- with document 01's test
+abbrev pub settled : Search → Search
+settled = settle finiteOf
+
+-- a test after another, with the same refusal
+pub cond-both : (a b : Bool) (s t : Search) → cond a (cond b s t) t ≡ cond (a && b) s t
+cond-both true b s t = refl
+cond-both false b s t = refl
+
+-- searches that settle alike do so with the same search after them
+pub settled-bind : (s t : Search) (f : Answer → Search) → settled s ≡ settled t → settled (bind s f) ≡ settled (bind t f)
+settled-bind s t f e = sym (settle-bind finiteOf s f) ∙ ap (λ (x : Search). settled (bind x f)) e ∙ settle-bind finiteOf t f
 
 -- ---- the end
 after-done : (ok : Float → Bool) (ev : Evaluator) (j : ℕ) (a : Answer) (n : ℕ) (ρ : Float)

@@ -77,6 +77,15 @@ clean ev (done a) = true
 clean ev (ask e t ρ k) = clean ev (k (ev e t ρ))
 clean ev (test x k) = finiteOf x && clean ev (k true)
 
+-- what a part of a search answers by itself
+abbrev pub answerOf : Evaluator → Search → Answer
+answerOf ev t = run finiteOf ev 0 t .answer
+
+-- a part was found, and this holds of what it found
+unfoldable pub foundAnd : Answer → (Values → Bool) → Bool
+foundAnd (Found v) holds = holds v
+foundAnd (Refused r) holds = false
+
 -- it ends after at most n evaluations, whatever they yield and whatever the tests say
 pub data Within : ℕ → Search → Type 0 where
   ended : {n : ℕ} {a : Answer} → Within n (done a)

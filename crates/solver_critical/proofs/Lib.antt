@@ -1,3 +1,4 @@
 pub mod Spans
 pub mod Settles
 pub mod Runs
+pub mod Rule

@@ -1,5 +1,5 @@
 -- A round's value stands for the tests and the search that follow it. Assumes nothing.
-use mathlib.Core.Path.{_≡_, refl, sym, ap, _∙_}
+use mathlib.Core.Path.{_≡_, refl, ap, _∙_}
 use mathlib.Core.Bool.{Bool, true, false, cond, _&&_}
 use lib.Ieee.{Float, lt}
 use Rattle.float.specs.Sign.{finiteOf, absOf}
@@ -12,7 +12,7 @@ use Rattle.solver.specs.declared.types.Refusal.the-variants.{NotFinite}
 use Rattle.solver.specs.declared.types.Answer.{Answer}
 use Rattle.solver.specs.declared.types.Answer.the-variants.{Refused}
 use Rattle.solver.specs.Search.{Search, done, refuse, tested, bind, settle}
-use Rattle.solver.proofs.Steps.{settle-tested, settle-bind}
+use Rattle.solver.proofs.Steps.{settle-tested, settled, cond-both, settled-bind}
 use Rattle.solver_critical.specs.declared.types.Point.{Point}
 use Rattle.solver_critical.specs.declared.types.CriticalOutcome.{CriticalOutcome}
 use Rattle.solver_critical.specs.declared.types.CriticalOutcome.the-variants.{End, Next}
@@ -22,20 +22,12 @@ use Rattle.solver_critical.specs.CriticalPoint.{criticalAnswer, tested6,
 use Rattle.solver_critical.specs.Spinodal.{spinodalAnswer, stabilityStep, afterStability}
 use Rattle.solver_critical.specs.Rounds.{bothFinite, finite6, steppedRound, solvedRound, criticalRound, stabilityRound}
 
-abbrev pub settled : Search → Search
-settled = settle finiteOf
-
--- a test after another, with the same refusal
-and-then : (a b : Bool) (s t : Search) → cond a (cond b s t) t ≡ cond (a && b) s t
-and-then true b s t = refl
-and-then false b s t = refl
-
 tests2 : (x y : Float) (s : Search) → settled (tested x (tested y s)) ≡ cond (bothFinite x y) (settled s) (refuse NotFinite)
-tests2 x y s = simp settle-tested (and-then (finiteOf x) (finiteOf y) (settled s) (refuse NotFinite))
+tests2 x y s = simp settle-tested (cond-both (finiteOf x) (finiteOf y) (settled s) (refuse NotFinite))
 
 -- two tests before others
 tests2-more : (x y : Float) (s : Search) (b : Bool) (t : Search) → settled s ≡ cond b t (refuse NotFinite) → settled (tested x (tested y s)) ≡ cond (bothFinite x y && b) t (refuse NotFinite)
-tests2-more x y s b t e = tests2 x y s ∙ rw e (and-then (bothFinite x y) b t (refuse NotFinite))
+tests2-more x y s b t e = tests2 x y s ∙ rw e (cond-both (bothFinite x y) b t (refuse NotFinite))
 
 tests6 : (y : Criticality) (s : Search) → settled (tested6 y s) ≡ cond (finite6 y) (settled s) (refuse NotFinite)
 unfolding finite6
@@ -79,10 +71,7 @@ module _ (maxdensity : Float) (again : Point → Search) where
       ∙ cond-led (finite6 y) (solvedRound maxdensity p y (solved y))
 
   pub round-bind : (f : Answer → Search) (p : Point) (y : Criticality) → settled (bind (afterConditions maxdensity p y again) f) ≡ settled (bind (led (criticalRound maxdensity p y) again) f)
-  round-bind f p y =
-      sym (settle-bind finiteOf (afterConditions maxdensity p y again) f)
-      ∙ ap (λ (s : Search). settled (bind s f)) (round-led p y)
-      ∙ settle-bind finiteOf (led (criticalRound maxdensity p y) again) f
+  round-bind f p y = settled-bind (afterConditions maxdensity p y again) (led (criticalRound maxdensity p y) again) f (round-led p y)
 
 -- ---- a round of a spinodal search
 unfoldable pub stabilityLed : StabilityOutcome → (Float → Search) → Search

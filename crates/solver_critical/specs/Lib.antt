@@ -1,3 +1,4 @@
 pub mod CriticalPoint
 pub mod Spinodal
 pub mod Rounds
+pub mod NotFinite

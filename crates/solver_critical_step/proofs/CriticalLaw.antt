@@ -9,13 +9,13 @@ use Rattle.float.specs.Sign.{finiteOf}
 use Rattle.solver.specs.declared.types.Answer.{Answer}
 use Rattle.solver.specs.declared.types.Answer.the-variants.{Found, Refused}
 use Rattle.solver.specs.Search.{Evaluator, Search, bind, settle, nextOf, criticality}
-use Rattle.solver.proofs.Steps.{moved, next-bind}
+use Rattle.solver.proofs.Steps.{moved, next-bind, settled}
 use Rattle.solver_critical.specs.declared.types.Start.{Start}
 use Rattle.solver_critical.specs.declared.types.Start.the-variants as Start
 use Rattle.solver_critical.specs.declared.types.CriticalOutcome.{CriticalOutcome}
 use Rattle.solver_critical.specs.declared.types.CriticalOutcome.the-variants.{End, Next}
 use Rattle.solver_critical.specs.CriticalPoint.{orElse, trialTemperatures, trialTemperature, startDensity, hkmFrom, criticalPointHkm, trials, fromTemperature, criticalPoint}
-use Rattle.solver_critical.proofs.Settles.{settled, led, round-led}
+use Rattle.solver_critical.proofs.Settles.{led, round-led}
 use Rattle.solver_critical_step.specs.declared.types.HkmSpot.{HkmSpot}
 use Rattle.solver_critical_step.specs.declared.types.HkmPlace.{HkmPlace}
 use Rattle.solver_critical_step.specs.declared.types.HkmPlace.the-variants as Hkm

@@ -32,7 +32,7 @@ use Rattle.solver_critical_step.specs.SpinodalsStep.{stabilityOn, stabil
 use Rattle.solver_critical_step.specs.Stored.{spotNumbers, criticalSpotNumbers, criticalNumbers, spinodalsNumbers}
 
 -- the counters of a place that asks
-asks-fits : (stage tag way rounds : ℕ) (x y : Float) → stage < 5 → tag < 7 → way < 4 → rounds < 50 → Fits (spotNumbers stage tag way rounds x y)
+pub asks-fits : (stage tag way rounds : ℕ) (x y : Float) → stage < 5 → tag < 7 → way < 4 → rounds < 50 → Fits (spotNumbers stage tag way rounds x y)
 unfolding spotNumbers statusFits
 asks-fits stage tag way rounds x y s t w r = fits _ (record { stage = s; tag = t; status = refl; left = omega arith; way = w; rounds = r })
 

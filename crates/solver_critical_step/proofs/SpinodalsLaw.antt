@@ -5,13 +5,13 @@ use lib.Ieee.{Float}
 use Rattle.float.specs.Sign.{finiteOf}
 use Rattle.solver.specs.declared.types.Answer.the-variants.{Found, Refused}
 use Rattle.solver.specs.Search.{Evaluator, Search, bind, onFound, andThen, settle, nextOf, stability}
-use Rattle.solver.proofs.Steps.{settle-bind, moved, next-bind}
+use Rattle.solver.proofs.Steps.{settle-bind, moved, next-bind, settled}
 use Rattle.solver_critical.specs.declared.types.Start.the-variants.{None}
 use Rattle.solver_critical.specs.declared.types.StabilityOutcome.{StabilityOutcome}
 use Rattle.solver_critical.specs.declared.types.StabilityOutcome.the-variants.{End, Next}
 use Rattle.solver_critical.specs.CriticalPoint.{startDensity, criticalPoint}
 use Rattle.solver_critical.specs.Spinodal.{spinodalStart, spinodalFrom, calculateSpinodal, afterLiquid, afterVapor, afterCritical, spinodal}
-use Rattle.solver_critical.proofs.Settles.{settled, stabilityLed, stability-led}
+use Rattle.solver_critical.proofs.Settles.{stabilityLed, stability-led}
 use Rattle.solver_critical_step.specs.declared.types.CriticalPlace.{CriticalPlace}
 use Rattle.solver_critical_step.specs.declared.types.CriticalPlace.the-variants as Critical
 use Rattle.solver_critical_step.specs.declared.types.StabilitySpot.{StabilitySpot}

@@ -19,6 +19,7 @@ use Rattle.solver.specs.declared.types.Ran.{Ran}
 use Rattle.solver.specs.Search.{Search, done, refuse, andThen, run, settle}
 use Rattle.solver.specs.Evaluated.{evaluated}
 use Rattle.solver.proofs.Runs.{ran, same-run, run-from, run-tested, part-bind, first-part, then-done, then-refused}
+use Rattle.solver.proofs.Steps.{settled}
 use Rattle.solver_density.specs.declared.types.Branch.{Branch}
 use Rattle.solver_density.specs.declared.types.Conditions.{Conditions}
 use Rattle.solver_density.specs.declared.types.Detour.{Detour}
@@ -28,7 +29,7 @@ use Rattle.solver_density.specs.Spinodal.{tested3, spinodalFrom, pressur
 use Rattle.solver_density.specs.Density.{corrected, detourOf, detour, unstable, densityFrom, firstRound, densitySearch, densityIteration}
 use Rattle.solver_density.specs.Stable.{lowerPotential, potentials, vaporPotential, stablePhase, afterLiquid, densityIterationStable}
 use Rattle.solver_density.specs.Rounds.{finite3, spinodalRound, slopeRound}
-use Rattle.solver_density.proofs.Settles.{settled, tests3, led, round-led, slopeLed, slope-led}
+use Rattle.solver_density.proofs.Settles.{tests3, led, round-led, slopeLed, slope-led}
 
 -- ---- the loop of a spinodal search
 module _ (b : Blend) (maxdensity t : Float) where

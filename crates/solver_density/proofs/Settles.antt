@@ -1,5 +1,5 @@
 -- A round's value stands for the tests and the search that follow it. Assumes nothing.
-use mathlib.Core.Path.{_≡_, refl, sym, ap, _∙_}
+use mathlib.Core.Path.{_≡_, refl, ap, _∙_}
 use mathlib.Core.Bool.{Bool, true, false, cond, _&&_}
 use lib.Ieee.{Float}
 use Rattle.float.specs.Ops.{_⊖_}
@@ -9,7 +9,7 @@ use Rattle.solver.specs.declared.types.Refusal.the-variants.{NotFinite}
 use Rattle.solver.specs.declared.types.Answer.{Answer}
 use Rattle.solver.specs.declared.types.Answer.the-variants.{Refused}
 use Rattle.solver.specs.Search.{Search, done, refuse, tested, bind, settle}
-use Rattle.solver.proofs.Steps.{settle-tested, settle-bind}
+use Rattle.solver.proofs.Steps.{settle-tested, settled, cond-both, settled-bind}
 use Rattle.solver_density.specs.declared.types.Conditions.{Conditions}
 use Rattle.solver_density.specs.declared.types.Outcome.{Outcome}
 use Rattle.solver_density.specs.declared.types.Outcome.the-variants.{End, Next}
@@ -18,14 +18,6 @@ use Rattle.solver_density.specs.declared.types.SlopeOutcome.the-variants
 use Rattle.solver_density.specs.Spinodal.{tested3, continued, spinodalOutcome}
 use Rattle.solver_density.specs.Density.{density, newton, converged, afterSlope}
 use Rattle.solver_density.specs.Rounds.{finite3, testedOutcome, spinodalRound, newtonRound, slopeRound}
-
-abbrev pub settled : Search → Search
-settled = settle finiteOf
-
--- two tests as one
-cond-both : (a b : Bool) (s t : Search) → cond a (cond b s t) t ≡ cond (a && b) s t
-cond-both true b s t = refl
-cond-both false b s t = refl
 
 pub tests3 : (y : Pressure) (t : Search) → settled (tested3 y t) ≡ cond (finite3 y) (settled t) (refuse NotFinite)
 unfolding finite3
@@ -63,10 +55,7 @@ round-led maxdensity ρ y again =
 
 pub round-bind : (maxdensity ρ : Float) (y : Pressure) (again : Float → Search) (f : Answer → Search)
     → settled (bind (tested3 y (continued (spinodalOutcome maxdensity ρ y) again)) f) ≡ settled (bind (led (spinodalRound maxdensity ρ y) again) f)
-round-bind maxdensity ρ y again f =
-    sym (settle-bind finiteOf (tested3 y (continued (spinodalOutcome maxdensity ρ y) again)) f)
-    ∙ ap (λ (t : Search). settled (bind t f)) (round-led maxdensity ρ y again)
-    ∙ settle-bind finiteOf (led (spinodalRound maxdensity ρ y) again) f
+round-bind maxdensity ρ y again f = settled-bind (tested3 y (continued (spinodalOutcome maxdensity ρ y) again)) (led (spinodalRound maxdensity ρ y) again) f (round-led maxdensity ρ y again)
 
 -- ---- a round of a density search
 unfoldable pub slopeLed : SlopeOutcome → (Float → Search) → (Float → Search) → Search

@@ -2,3 +2,4 @@ pub mod Spinodal
 pub mod Density
 pub mod Stable
 pub mod Rounds
+pub mod NotFinite

@@ -12,30 +12,24 @@ use Rattle.solver.specs.Search.{Evaluator}
 use Rattle.solver.proofs.Ranges.{Fits, Below, below, fits, status-fits, ended-fits}
 use Rattle.solver_density.specs.declared.types.Branch.{Branch}
 use Rattle.solver_density.specs.declared.types.Conditions.{Conditions}
-use Rattle.solver_density.specs.declared.types.Nearest.{Nearest}
-use Rattle.solver_density.specs.declared.types.Nearest.the-variants.{HighDensity, AboveConvex, BelowConcave}
-use Rattle.solver_density.specs.declared.types.Both.{Both}
-use Rattle.solver_density.specs.declared.types.Both.the-variants.{BelowConvex, AboveConcave}
 use Rattle.solver_step.specs.declared.types.SpinodalPlace.{SpinodalPlace}
 use Rattle.solver_step.specs.declared.types.SpinodalPlace.the-variants as Spinodal
 use Rattle.solver_step.specs.declared.types.DensitySpot.{DensitySpot}
-use Rattle.solver_step.specs.declared.types.DensitySpot.the-variants.{First, Slope, Curvature, NearestSpinodal, LiquidSpinodal, VaporSpinodal}
 use Rattle.solver_step.specs.declared.types.DensityPlace.{DensityPlace}
 use Rattle.solver_step.specs.declared.types.DensityPlace.the-variants as DensityPlace
 use Rattle.solver_step.specs.declared.types.StableSpot.{StableSpot}
 use Rattle.solver_step.specs.declared.types.StablePlace.{StablePlace}
 use Rattle.solver_step.specs.declared.types.StablePlace.the-variants as Stable
 use Rattle.solver_step.specs.DensityStep.{phaseAnswer}
-use Rattle.solver_step.specs.Stored.{nearestNumber, bothNumber, spotNumbers, spinodalNumbers, spinodalSpotBy, spinodalPlaceBy, phaseBy, densitySpotNumbers, densitySpotBy, densityNumbers, densityPlaceBy, staged, potentialNumbers, stableNumbers, stableSpotBy, stablePlaceBy}
-use Rattle.solver_step.proofs.Ranges.{spinodal-kept, branch-kept, density-kept, stable-kept, spinodal-start-fits, branch-begin-fits, density-begin-fits, stable-begin-fits}
+use Rattle.solver_step.specs.Stored.{spotNumbers, spinodalNumbers, spinodalSpotBy, spinodalPlaceBy, phaseBy, densitySpotNumbers, densitySpotBy, densityNumbers, densityPlaceBy, staged, stableNumbers, stableSpotBy, stablePlaceBy}
+use Rattle.solver_step.proofs.Ranges.{nearest-below, both-below, asks, unstaged, potential-fits, spinodal-kept, branch-kept, density-kept, stable-kept, spinodal-start-fits, branch-begin-fits, density-begin-fits, stable-begin-fits}
 use Rattle.solver_critical_step.specs.declared.types.CriticalPlace.{CriticalPlace}
 use Rattle.solver_critical_step.specs.declared.types.CriticalPlace.the-variants as Critical
 use Rattle.solver_critical_step.specs.declared.types.SpinodalsSpot.{SpinodalsSpot}
 use Rattle.solver_critical_step.specs.declared.types.SpinodalsPlace.{SpinodalsPlace}
 use Rattle.solver_critical_step.specs.declared.types.SpinodalsPlace.the-variants as Spinodals
-use Rattle.solver_critical_step.specs.Stored as CriticalStored
 use Rattle.solver_critical_step.specs.Stored.{criticalSpotNumbers, criticalNumbers, criticalSpotBy, criticalPlaceBy, hkmSpotBy, spinodalsNumbers, stabilitySpotBy, spinodalsSpotBy, spinodalsPlaceBy}
-use Rattle.solver_critical_step.proofs.Ranges.{critical-kept, critical-begin-fits, spinodals-kept, spinodals-begin-fits}
+use Rattle.solver_critical_step.proofs.Ranges.{asks-fits, critical-kept, critical-begin-fits, spinodals-kept, spinodals-begin-fits}
 use Rattle.solver_state.specs.declared.types.Job.{Job}
 use Rattle.solver_state.specs.declared.types.Job.the-variants.{Density, StableDensity, PressureSpinodal, BranchSpinodal, CriticalPoint, StabilitySpinodals}
 use Rattle.solver_state.specs.declared.types.State.{State}
@@ -62,47 +56,19 @@ module _ (n : Numbers) (h : Fits n) where
     abbrev numbers : DensitySpot → Numbers
     numbers s = staged stage status z (densitySpotNumbers s)
 
-    asks : (tag left way rounds : ℕ) (x y : Float) → tag < 7 → left < 50 → way < 4 → rounds < 50 → Fits (staged stage status z (spotNumbers tag left way rounds x y))
-    unfolding staged spotNumbers
-    asks tag left way rounds x y t l w r = fits _ (record { stage = g; tag = t; status = st; left = l; way = w; rounds = r })
-
-    nearest-below : (way : Nearest) → nearestNumber way < 4
-    unfolding nearestNumber
-    nearest-below HighDensity = omega arith
-    nearest-below AboveConvex = omega arith
-    nearest-below BelowConcave = omega arith
-
-    both-below : (way : Both) → bothNumber way < 4
-    unfolding bothNumber
-    both-below BelowConvex = omega arith
-    both-below AboveConcave = omega arith
-
     spot-read : Fits (numbers (densitySpotBy n))
     unfolding densitySpotBy densitySpotNumbers spinodalSpotBy
     spot-read =
-        cond-fits numbers (eqb (n .counters .tag) 1) _ _ (asks 1 0 0 0 _ _ (omega arith) (omega arith) (omega arith) (omega arith))
-        (cond-fits numbers (eqb (n .counters .tag) 2) _ _ (asks 2 _ 0 0 _ _ (omega arith) (b .left) (omega arith) (omega arith))
-        (cond-fits numbers (eqb (n .counters .tag) 3) _ _ (asks 3 _ 0 0 _ _ (omega arith) (b .left) (omega arith) (omega arith))
-        (cond-fits numbers (eqb (n .counters .tag) 4) _ _ (asks 4 _ _ _ _ _ (omega arith) (b .left) (nearest-below _) (b .rounds))
-        (cond-fits numbers (eqb (n .counters .tag) 5) _ _ (asks 5 _ _ _ _ _ (omega arith) (b .left) (both-below _) (b .rounds))
-        (asks 6 _ _ _ _ _ (omega arith) (b .left) (both-below _) (b .rounds))))))
-
-  unstaged : (s : DensitySpot) → Fits (staged 0 0 f0 (densitySpotNumbers s)) → Fits (densitySpotNumbers s)
-  unfolding staged densitySpotNumbers spotNumbers
-  unstaged First e = e
-  unstaged (Slope m ρ) e = e
-  unstaged (Curvature m ρ error) e = e
-  unstaged (NearestSpinodal m way s) e = e
-  unstaged (LiquidSpinodal m way s) e = e
-  unstaged (VaporSpinodal m way ρl s) e = e
+        cond-fits numbers (eqb (n .counters .tag) 1) _ _ (asks stage status z g st 1 0 0 0 _ _ (omega arith) (omega arith) (omega arith) (omega arith))
+        (cond-fits numbers (eqb (n .counters .tag) 2) _ _ (asks stage status z g st 2 _ 0 0 _ _ (omega arith) (b .left) (omega arith) (omega arith))
+        (cond-fits numbers (eqb (n .counters .tag) 3) _ _ (asks stage status z g st 3 _ 0 0 _ _ (omega arith) (b .left) (omega arith) (omega arith))
+        (cond-fits numbers (eqb (n .counters .tag) 4) _ _ (asks stage status z g st 4 _ _ _ _ _ (omega arith) (b .left) (nearest-below _) (b .rounds))
+        (cond-fits numbers (eqb (n .counters .tag) 5) _ _ (asks stage status z g st 5 _ _ _ _ _ (omega arith) (b .left) (both-below _) (b .rounds))
+        (asks stage status z g st 6 _ _ _ _ _ (omega arith) (b .left) (both-below _) (b .rounds))))))
 
   density-read : Fits (densityNumbers (densityPlaceBy n))
   unfolding densityPlaceBy densityNumbers statusFits
-  density-read = cond-fits densityNumbers (eqb (n .counters .tag) 0) _ _ (ended-fits _) (unstaged (densitySpotBy n) (spot-read 0 0 f0 (omega arith) refl))
-
-  potential-fits : (stage : ℕ) (x y z : Float) → stage < 5 → Fits (potentialNumbers stage x y z)
-  unfolding potentialNumbers statusFits
-  potential-fits stage x y z g = fits _ (record { stage = g; tag = omega arith; status = refl; left = omega arith; way = omega arith; rounds = omega arith })
+  density-read = cond-fits densityNumbers (eqb (n .counters .tag) 0) _ _ (ended-fits _) (rw unstaged at (spot-read 0 0 f0 (omega arith) refl))
 
   stable-read : Fits (stableNumbers (stablePlaceBy n))
   unfolding stablePlaceBy stableSpotBy stableNumbers statusFits
@@ -115,16 +81,11 @@ module _ (n : Numbers) (h : Fits n) where
       at : StableSpot → Numbers
       at s = stableNumbers (Stable.At s)
 
-  -- a spot of kinds 5 and 6
-  critical-asks : (stage tag way rounds : ℕ) (x y : Float) → stage < 5 → tag < 7 → way < 4 → rounds < 50 → Fits (CriticalStored.spotNumbers stage tag way rounds x y)
-  unfolding CriticalStored.spotNumbers statusFits
-  critical-asks stage tag way rounds x y g t w r = fits _ (record { stage = g; tag = t; status = refl; left = omega arith; way = w; rounds = r })
-
   critical-spot-read : (stage : ℕ) → stage < 5 → Fits (criticalSpotNumbers stage (criticalSpotBy n))
   unfolding criticalSpotBy criticalSpotNumbers hkmSpotBy
   critical-spot-read stage g =
-      cond-fits (criticalSpotNumbers stage) (eqb (n .counters .tag) 1) _ _ (critical-asks stage 1 0 _ _ _ g (omega arith) (omega arith) (b .rounds))
-      (critical-asks stage 2 _ _ _ _ g (omega arith) (b .way) (b .rounds))
+      cond-fits (criticalSpotNumbers stage) (eqb (n .counters .tag) 1) _ _ (asks-fits stage 1 0 _ _ _ g (omega arith) (omega arith) (b .rounds))
+      (asks-fits stage 2 _ _ _ _ g (omega arith) (b .way) (b .rounds))
 
   critical-read : Fits (criticalNumbers (criticalPlaceBy n))
   unfolding criticalPlaceBy criticalNumbers
@@ -135,8 +96,8 @@ module _ (n : Numbers) (h : Fits n) where
   spinodals-read =
       cond-fits spinodalsNumbers (eqb (n .counters .stage) 0) _ _ (ended-fits _)
       (cond-fits asking (eqb (n .counters .stage) 1) _ _ (critical-spot-read 1 (omega arith))
-      (cond-fits asking (eqb (n .counters .stage) 2) _ _ (critical-asks 2 0 0 _ _ _ (omega arith) (omega arith) (omega arith) (b .rounds))
-      (critical-asks 3 0 0 _ _ _ (omega arith) (omega arith) (omega arith) (b .rounds))))
+      (cond-fits asking (eqb (n .counters .stage) 2) _ _ (asks-fits 2 0 0 _ _ _ (omega arith) (omega arith) (omega arith) (b .rounds))
+      (asks-fits 3 0 0 _ _ _ (omega arith) (omega arith) (omega arith) (b .rounds))))
     where
       asking : SpinodalsSpot → Numbers
       asking x = spinodalsNumbers (Spinodals.At x)

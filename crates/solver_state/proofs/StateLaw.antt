@@ -5,10 +5,9 @@ use lib.Ieee.{Float}
 use Rattle.float.specs.Sign.{finiteOf}
 use Rattle.solver.specs.declared.types.Numbers.{Numbers}
 use Rattle.solver.specs.Search.{Evaluator, Search, Going, nextOf, next, fresh, Within}
-use Rattle.solver.proofs.Steps.{moved, Stepped, stepped}
+use Rattle.solver.proofs.Steps.{moved, Stepped, stepped, settled}
 use Rattle.solver_density.specs.declared.types.Branch.{Branch}
 use Rattle.solver_density.specs.declared.types.Conditions.{Conditions}
-use Rattle.solver_density.proofs.Settles.{settled}
 use Rattle.solver_density.proofs.Spans.{spinodal-30, branch-30, search-3101, stable-6204}
 use Rattle.solver_critical.specs.declared.types.Start.{Start}
 use Rattle.solver_critical.specs.CriticalPoint.{startDensity}

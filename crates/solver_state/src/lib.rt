@@ -2,7 +2,6 @@
 mod state;
 mod types;
 
-pub use crate::state::span;
 pub use crate::state::start;
 pub use crate::state::step;
 pub use crate::types::Job;

@@ -4,7 +4,7 @@ ghost use Prim.Native.Nat.{_<_};
 ghost use Rattle.solver.specs.Evaluated.{evaluated};
 ghost use Rattle.solver_step.specs.Stored.{densityPlaceBy, stablePlaceBy, spinodalPlaceBy};
 ghost use Rattle.solver_critical_step.specs.Stored.{criticalPlaceBy, spinodalsPlaceBy};
-ghost use Rattle.solver_state.specs.State.{spanOf, beginOf, startOf, densityStep, stableStep, spinodalStep, branchStep, criticalStep, spinodalsStep, stepOf};
+ghost use Rattle.solver_state.specs.State.{beginOf, startOf, densityStep, stableStep, spinodalStep, branchStep, criticalStep, spinodalsStep, stepOf};
 use crate::types::Job;
 use crate::types::State;
 use eos::Blend;
@@ -16,39 +16,6 @@ use solver_density::Conditions;
 use solver_step::DensityPlace;
 use solver_step::SpinodalPlace;
 use solver_step::StablePlace;
-
-// the most evaluations that a search makes
-pub fn span(job: Job) -> u64
-    ensures { λ r. ⌜ r ≡ spanOf job ⌝ }
-{
-    match job {
-        Job::Density(_) => 3101,
-        Job::StableDensity {
-            maxdensity: _,
-            temperature: _,
-            pressure: _,
-        } => 6204,
-        Job::PressureSpinodal {
-            maxdensity: _,
-            temperature: _,
-            start: _,
-        } => 30,
-        Job::BranchSpinodal {
-            maxdensity: _,
-            temperature: _,
-            branch: _,
-        } => 30,
-        Job::CriticalPoint {
-            maxdensity: _,
-            temperature: _,
-            density: _,
-        } => 150,
-        Job::StabilitySpinodals {
-            maxdensity: _,
-            temperature: _,
-        } => 250,
-    }
-}
 
 fn begin(job: Job) -> Numbers
     ensures { λ r. ⌜ r ≡ beginOf job ⌝ }

@@ -10,7 +10,7 @@ use Rattle.solver.specs.declared.types.Refusal.the-variants.{StartNotPositive, 
 use Rattle.solver.specs.declared.types.Answer.{Answer}
 use Rattle.solver.specs.declared.types.Answer.the-variants as Answer
 use Rattle.solver.specs.Search.{Evaluator, Search, done, refuse, bind, onFound, andThen, settle, nextOf, slope, curvature}
-use Rattle.solver.proofs.Steps.{settle-bind, moved, next-bind}
+use Rattle.solver.proofs.Steps.{settle-bind, moved, next-bind, settled}
 use Rattle.solver_density.specs.declared.types.Branch.the-variants.{Liquid, Vapor}
 use Rattle.solver_density.specs.declared.types.Conditions.{Conditions}
 use Rattle.solver_density.specs.declared.types.SlopeOutcome.{SlopeOutcome}
@@ -22,7 +22,7 @@ use Rattle.solver_density.specs.declared.types.Detour.the-variants.{ByNearest, 
 use Rattle.solver_density.specs.Spinodal.{tested3, pressureSpinodal, pressureSpinodalBranch, spinodalFrom}
 use Rattle.solver_density.specs.Density.{density, corrected, detourOf, afterNearest, afterBoth, vapor, detour, unstable, densityFrom, firstRound, densitySearch}
 use Rattle.solver_density.specs.Rounds.{finite3}
-use Rattle.solver_density.proofs.Settles.{settled, tests3, slopeLed, slope-led}
+use Rattle.solver_density.proofs.Settles.{tests3, slopeLed, slope-led}
 use Rattle.solver_step.specs.declared.types.SpinodalPlace.{SpinodalPlace}
 use Rattle.solver_step.specs.declared.types.SpinodalPlace.the-variants as Spinodal
 use Rattle.solver_step.specs.declared.types.Phase.the-variants.{Failed}

@@ -163,20 +163,20 @@ module _ (c : Conditions) where
       go false = Bounded.first
 
 -- ---- places and numbers
-nearest-below : (way : Nearest) → nearestNumber way < 4
+pub nearest-below : (way : Nearest) → nearestNumber way < 4
 unfolding nearestNumber
 nearest-below HighDensity = omega arith
 nearest-below AboveConvex = omega arith
 nearest-below BelowConcave = omega arith
 
-both-below : (way : Both) → bothNumber way < 4
+pub both-below : (way : Both) → bothNumber way < 4
 unfolding bothNumber
 both-below BelowConvex = omega arith
 both-below AboveConcave = omega arith
 
 -- a density search's place in a stage of kind 2 (0 in kind 1), with a status beside it
 module _ (stage status : ℕ) (z : Float) (g : stage < 5) (st : statusFits status ≡ true) where
-  asks : (tag left way rounds : ℕ) (x y : Float) → tag < 7 → left < 50 → way < 4 → rounds < 50 → Fits (staged stage status z (spotNumbers tag left way rounds x y))
+  pub asks : (tag left way rounds : ℕ) (x y : Float) → tag < 7 → left < 50 → way < 4 → rounds < 50 → Fits (staged stage status z (spotNumbers tag left way rounds x y))
   unfolding staged spotNumbers
   asks tag left way rounds x y t l w r = fits _ (record { stage = g; tag = t; status = st; left = l; way = w; rounds = r })
 
@@ -225,7 +225,7 @@ unfolding branchBegin
 branch-begin-fits maxdensity branch = spinodal-fits _ (branch-few branch _ (start-few _))
 
 -- ---- kind 1
-unstaged : (s : DensitySpot) → staged 0 0 f0 (densitySpotNumbers s) ≡ densitySpotNumbers s
+pub unstaged : (s : DensitySpot) → staged 0 0 f0 (densitySpotNumbers s) ≡ densitySpotNumbers s
 unfolding staged densitySpotNumbers spotNumbers
 unstaged First = refl
 unstaged (Slope n ρ) = refl
@@ -247,7 +247,7 @@ pub density-begin-fits : (c : Conditions) → Fits (densityNumbers (densityBegin
 density-begin-fits c = density-fits _ (begin-within c)
 
 -- ---- kind 2
-potential-fits : (stage : ℕ) (x y z : Float) → stage < 5 → Fits (potentialNumbers stage x y z)
+pub potential-fits : (stage : ℕ) (x y z : Float) → stage < 5 → Fits (potentialNumbers stage x y z)
 unfolding potentialNumbers statusFits
 potential-fits stage x y z g = fits _ (record { stage = g; tag = omega arith; status = refl; left = omega arith; way = omega arith; rounds = omega arith })
 

@@ -9,12 +9,12 @@ use Rattle.solver.specs.declared.types.Refusal.the-variants.{StartNotPositive}
 use Rattle.solver.specs.declared.types.Answer.{Answer}
 use Rattle.solver.specs.declared.types.Answer.the-variants.{Found, Refused}
 use Rattle.solver.specs.Search.{Evaluator, Search, done, refuse, bind, onFound, settle, nextOf, curvature}
-use Rattle.solver.proofs.Steps.{settle-bind, moved, next-bind}
+use Rattle.solver.proofs.Steps.{settle-bind, moved, next-bind, settled}
 use Rattle.solver_density.specs.declared.types.Branch.{Branch}
 use Rattle.solver_density.specs.declared.types.Outcome.{Outcome}
 use Rattle.solver_density.specs.declared.types.Outcome.the-variants.{End, Next}
 use Rattle.solver_density.specs.Spinodal.{spinodalFrom, pressureSpinodal, branchStart, branchAnswer, pressureSpinodalBranch}
-use Rattle.solver_density.proofs.Settles.{settled, led, round-led}
+use Rattle.solver_density.proofs.Settles.{led, round-led}
 use Rattle.solver_step.specs.declared.types.SpinodalSpot.{SpinodalSpot}
 use Rattle.solver_step.specs.declared.types.SpinodalPlace.{SpinodalPlace}
 use Rattle.solver_step.specs.declared.types.SpinodalPlace.the-variants.{Ended, At}

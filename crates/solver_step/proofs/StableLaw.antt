@@ -8,11 +8,10 @@ use Rattle.float.specs.Sign.{finiteOf}
 use Rattle.solver.specs.declared.types.Refusal.the-variants.{NotFinite}
 use Rattle.solver.specs.declared.types.Answer.{Answer}
 use Rattle.solver.specs.Search.{Evaluator, Search, done, refuse, tested, bind, settle, nextOf, potential}
-use Rattle.solver.proofs.Steps.{settle-bind, settle-tested, moved, next-bind}
+use Rattle.solver.proofs.Steps.{settle-bind, settle-tested, moved, next-bind, settled}
 use Rattle.solver_density.specs.declared.types.Conditions.{Conditions}
 use Rattle.solver_density.specs.Density.{densitySearch, densityIteration}
 use Rattle.solver_density.specs.Stable.{lowerPotential, vaporPotential, potentials, stablePhase, afterLiquid, densityIterationStable}
-use Rattle.solver_density.proofs.Settles.{settled}
 use Rattle.solver_step.specs.declared.types.Phase.{Phase}
 use Rattle.solver_step.specs.declared.types.Phase.the-variants.{Found, Failed}
 use Rattle.solver_step.specs.declared.types.DensityPlace.{DensityPlace}
