@@ -302,16 +302,16 @@ pub record Turns (queue c : ℕ) (js : List (Held Bytes)) (q buffer : Bytes) : T
   pub reply : record { answer = Turned (turnQuarter queue q buffer .answer); buffer = turnQuarter queue q buffer .buffer } ≡ turnReply buffer queue (undergo js .out)
   pub rep : RepQueue c (undergo js .jobs) (turnQuarter queue q buffer .quarter)
 
-turn-idle : (queue : ℕ) (q buffer : Bytes) → eqb (u64At q heldAt) 0 ≡ true → turnQuarter queue q buffer ≡ record { answer = 0; quarter = q; buffer = buffer }
+pub turn-idle : (queue : ℕ) (q buffer : Bytes) → eqb (u64At q heldAt) 0 ≡ true → turnQuarter queue q buffer ≡ record { answer = 0; quarter = q; buffer = buffer }
 unfolding turnQuarter
 turn-idle queue q buffer e = rw e
 
-turn-out : (queue : ℕ) (q buffer : Bytes) → eqb (u64At q heldAt) 0 ≡ false → eqb (u64At q turnsAt + 1) (spanOf (firstKind q)) ≡ true
+pub turn-out : (queue : ℕ) (q buffer : Bytes) → eqb (u64At q heldAt) 0 ≡ false → eqb (u64At q turnsAt + 1) (spanOf (firstKind q)) ≡ true
     → turnQuarter queue q buffer ≡ record { answer = 1; quarter = freedQuarter q; buffer = splice buffer 0 (recordBytes (firstTicket q) (firstKind q) queue (outcomeAt (steppedOf q))) }
 unfolding turnQuarter
 turn-out queue q buffer e f = rw (e, f)
 
-turn-on : (queue : ℕ) (q buffer : Bytes) → eqb (u64At q heldAt) 0 ≡ false → eqb (u64At q turnsAt + 1) (spanOf (firstKind q)) ≡ false
+pub turn-on : (queue : ℕ) (q buffer : Bytes) → eqb (u64At q heldAt) 0 ≡ false → eqb (u64At q turnsAt + 1) (spanOf (firstKind q)) ≡ false
     → turnQuarter queue q buffer ≡ record { answer = 0; quarter = keptQuarter q; buffer = buffer }
 unfolding turnQuarter
 turn-on queue q buffer e f = rw (e, f)

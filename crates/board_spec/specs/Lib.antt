@@ -4,3 +4,4 @@ pub mod Board
 pub mod Run
 pub mod Rep
 pub mod Demand3
+pub mod Demand1

@@ -165,7 +165,6 @@ unfolding sealedOf
 sealed-job kind n block j e = rw e
 
 pub statuses : Statuses
-unfolding Statuses
 statuses kind n block k c l =
     let e = status-read kind n block k c l in
     record {

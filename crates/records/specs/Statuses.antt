@@ -65,7 +65,7 @@ module _ (kind n : ℕ) (block : List ℕ) where
     -- "16 choice, or the run's maximum density not finite and positive"
     choice-16 : pairs ≡ true → components ≡ true → interactions ≡ true → fractions ≡ true → conditions ≡ true → choice ≡ false → DataTests 16
     maximum-16 : pairs ≡ true → components ≡ true → interactions ≡ true → fractions ≡ true → conditions ≡ true → choice ≡ true → maximum ≡ false → DataTests 16
-    -- none of these comes, and the search has the word
+    -- none of these comes, and the status is the search's
     passed : {status : ℕ} → pairs ≡ true → components ≡ true → interactions ≡ true → fractions ≡ true → conditions ≡ true → choice ≡ true → maximum ≡ true
         → SearchStatus status → DataTests status
 
@@ -89,5 +89,5 @@ module _ (kind n : ℕ) (block : List ℕ) where
     -- "Count of evaluations in the record, .. at most the kind's span"
     pub evaluations : evaluationsIn ≤ spanOf kind
 
-unfoldable pub Statuses : Type 0
+abbrev pub Statuses : Type 0
 Statuses = (kind n : ℕ) (block : List ℕ) → Inside 1 6 kind → Inside 1 8 n → length block ≡ 640 → Sealed kind n block
