@@ -7,3 +7,5 @@ pub mod Stored
 pub mod Runs
 pub mod Fits
 pub mod Demand3
+pub mod Answers
+pub mod Demand1

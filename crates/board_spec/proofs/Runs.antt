@@ -37,7 +37,7 @@ run-scheduled σ b r (c ∷ cs) =
 
 -- ---- a turn that is accepted has room for a record
 
-room : (size : ℕ) → turnVerdict size ≡ accept → 64 ≤ size
+pub room : (size : ℕ) → turnVerdict size ≡ accept → 64 ≤ size
 unfolding turnVerdict
 room size e = leb-true 64 size (check-ok (leb 64 size) 5 accept e)
 

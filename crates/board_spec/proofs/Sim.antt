@@ -146,11 +146,11 @@ by-queue queue number u v h = go (leb queue 3) refl
     go true e = h (leb-true queue 3 e)
     go false e = refl
 
-submit-same : (queue kind n size held held′ : ℕ) → (queue ≤ 3 → held ≡ held′) → submitVerdict queue kind n size held ≡ submitVerdict queue kind n size held′
+pub submit-same : (queue kind n size held held′ : ℕ) → (queue ≤ 3 → held ≡ held′) → submitVerdict queue kind n size held ≡ submitVerdict queue kind n size held′
 unfolding submitVerdict
 submit-same queue kind n size held held′ h = by-queue queue 1 _ _ (λ k. rw (h k))
 
-look-same : (queue turns turns′ : ℕ) → (queue ≤ 3 → turns ≡ turns′) → lookVerdict queue turns ≡ lookVerdict queue turns′
+pub look-same : (queue turns turns′ : ℕ) → (queue ≤ 3 → turns ≡ turns′) → lookVerdict queue turns ≡ lookVerdict queue turns′
 unfolding lookVerdict
 look-same queue turns turns′ h = by-queue queue 1 _ _ (λ k. rw (h k))
 

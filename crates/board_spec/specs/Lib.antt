@@ -6,3 +6,4 @@ pub mod Rep
 pub mod Stored
 pub mod Fits
 pub mod Demand3
+pub mod Demand1

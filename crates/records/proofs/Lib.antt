@@ -1,3 +1,4 @@
 pub mod RecordLaws
 pub mod SpanLaws
 pub mod Demand2
+pub mod Statuses

@@ -3,3 +3,4 @@ pub mod Record
 pub mod Span
 pub mod Answered
 pub mod Demand2
+pub mod Statuses

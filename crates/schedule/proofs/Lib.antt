@@ -4,3 +4,4 @@ pub mod Never
 pub mod Rounds
 pub mod Order
 pub mod OnTime
+pub mod Refusals

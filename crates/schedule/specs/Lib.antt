@@ -1,3 +1,4 @@
 pub mod Spans
 pub mod Schedule
 pub mod History
+pub mod Refusals
