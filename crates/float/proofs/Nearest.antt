@@ -85,8 +85,7 @@ in-parts k l = ap (λ (x : ℕ). 2 ^ x) (back k l) ∙ pow-add 2 (1074 - k) k
 few : (m b : ℕ) (e : ℤ) → m < 2 ^ 53 → down e ≤ 2 ^ 1074 → m * up e * 2 ^ 1074 ≡ b * down e → Few b
 few m b (pos a) M d v = (m, a + 1074, M, sym (mul-one b) ∙ sym v ∙ mul-assoc m (2 ^ a) (2 ^ 1074) ∙ ap (λ (x : ℕ). m * x) (sym (pow-add 2 a 1074)))
 few m b (negsuc a) M d v =
-    let l : suc a ≤ 1074 = pow-le-back (suc a) 1074 d in
-    (
+    let l : suc a ≤ 1074 = pow-le-back (suc a) 1074 d in (
       m,
       1074 - suc a,
       M,
