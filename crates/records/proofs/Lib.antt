@@ -2,3 +2,4 @@ pub mod RecordLaws
 pub mod SpanLaws
 pub mod Demand2
 pub mod Statuses
+pub mod NotFinite

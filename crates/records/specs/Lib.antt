@@ -4,3 +4,4 @@ pub mod Span
 pub mod Answered
 pub mod Demand2
 pub mod Statuses
+pub mod NotFinite

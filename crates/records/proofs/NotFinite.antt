@@ -1,0 +1,90 @@
+-- A job's status is 27 exactly where specs/NotFinite.antt says. Assumes nothing.
+use mathlib.Core.Path.{_≡_, refl, ap}
+use Prim.Native.Nat.{ℕ}
+use mathlib.Core.Bool.{Bool, true, false, _&&_}
+use mathlib.Core.List.{List}
+use lib.ListN.{length}
+use lib.Dec.{leb, eqb}
+use borrow.Author.Tests.{eqb-false, ne-eqb}
+use lib.Ieee.{Float}
+use Rattle.eos.specs.Cubic.{maxDensity}
+use Rattle.solver.specs.Answer.{is27}
+use Rattle.solver.specs.Search.{Evaluator}
+use Rattle.solver.specs.Evaluated.{evaluated}
+use Rattle.solver_density.proofs.Rule.{density-27, stable-27, spinodal-27, branch-27}
+use Rattle.solver_critical.proofs.Rule.{critical-27, spinodals-27}
+use Rattle.block.specs.declared.types.Conditions.{Conditions}
+use Rattle.block.specs.declared.types.Job.{Job}
+use Rattle.block.specs.declared.types.Task.{Task}
+use Rattle.block.specs.declared.types.Task.the-variants.{Refused, DensityIteration, DensityIterationStable, PressureSpinodal, PressureSpinodalBranch, CriticalPoint, Spinodal}
+use Rattle.block.specs.Pairs.{pairsFit}
+use Rattle.block.specs.Checks.{positive, componentsFit, interactionsFit, fractionsFit, conditionsFit, choiceFits}
+use Rattle.block.specs.View.{taskOf, refused, check, readyOf, checked, view}
+use Rattle.records.specs.Outcome.{courseOf, refusedEnd, searchEnd, endOf, outcomeOf}
+use Rattle.records.specs.NotFinite.{notFinite}
+use Rattle.records.proofs.SpanLaws.{byKind}
+
+module _ (ev : Evaluator) (maxdensity : Float) where
+  task-27 : (task : Task) → (task ≡ Refused 27 → ⊥) → eqb (endOf ev (courseOf maxdensity task) .status) 27 ≡ notFinite ev maxdensity task
+  unfolding courseOf endOf refusedEnd searchEnd notFinite is27
+  task-27 (Refused number) other = ne-eqb number 27 (λ (e : number ≡ 27). other (ap Refused e))
+  task-27 (DensityIteration t p initial) other = density-27 ev maxdensity t p initial
+  task-27 (DensityIterationStable t p) other = stable-27 ev maxdensity t p
+  task-27 (PressureSpinodal t start) other = spinodal-27 ev maxdensity t start
+  task-27 (PressureSpinodalBranch t branch) other = branch-27 ev maxdensity t branch
+  task-27 (CriticalPoint t density) other = critical-27 ev maxdensity t density
+  task-27 (Spinodal t) other = spinodals-27 ev maxdensity t
+
+-- ---- the theorem, for each job that its data do not refuse by 27
+pub status-27 : (job : Job) → (job .task ≡ Refused 27 → ⊥) → eqb (outcomeOf job .status) 27 ≡ notFinite (evaluated (job .blend)) (maxDensity (job .blend)) (job .task)
+unfolding outcomeOf
+status-27 job other = task-27 (evaluated (job .blend)) (maxDensity (job .blend)) (job .task) other
+
+-- ---- no request's data are refused by 27, so it holds of every request
+numberIn : Task → ℕ
+numberIn (Refused number) = number
+numberIn (DensityIteration t p initial) = 0
+numberIn (DensityIterationStable t p) = 0
+numberIn (PressureSpinodal t start) = 0
+numberIn (PressureSpinodalBranch t branch) = 0
+numberIn (CriticalPoint t density) = 0
+numberIn (Spinodal t) = 0
+
+abbrev Other : Job → Type 0
+Other job = eqb (numberIn (job .task)) 27 ≡ false
+
+check-other : (ok : Bool) (number : ℕ) (next : Job) → eqb number 27 ≡ false → Other next → Other (check ok number next)
+unfolding refused numberIn
+check-other true number next e h = h
+check-other false number next e h = e
+
+task-other : (kind : ℕ) (c : Conditions) → eqb (numberIn (taskOf kind c)) 27 ≡ false
+unfolding taskOf byKind numberIn
+task-other kind c = go (eqb kind 1) (eqb kind 2) (eqb kind 3) (eqb kind 4) (eqb kind 5)
+  where
+    go : (k₁ k₂ k₃ k₄ k₅ : Bool) → eqb (numberIn (byKind c k₁ k₂ k₃ k₄ k₅)) 27 ≡ false
+    go true k₂ k₃ k₄ k₅ = refl
+    go false true k₃ k₄ k₅ = refl
+    go false false true k₄ k₅ = refl
+    go false false false true k₅ = refl
+    go false false false false true = refl
+    go false false false false false = refl
+
+view-other : (kind n : ℕ) (s : List ℕ) → Other (view kind n s)
+unfolding view checked readyOf
+view-other kind n s =
+    check-other (leb 1 kind && leb kind 6) 2 _ refl
+    (check-other (leb 1 n && leb n 8) 3 _ refl
+    (check-other (eqb (length s) 640) 8 _ refl
+    (check-other (pairsFit n s) 11 _ refl
+    (check-other (componentsFit n _) 12 _ refl
+    (check-other (interactionsFit n _) 13 _ refl
+    (check-other (fractionsFit n _) 14 _ refl
+    (check-other (conditionsFit kind _) 15 _ refl
+    (check-other (choiceFits kind n _) 16 _ refl
+    (check-other (positive _) 16 _ refl (task-other kind _))))))))))
+
+pub request-27 : (kind n : ℕ) (s : List ℕ)
+    → eqb (outcomeOf (view kind n s) .status) 27 ≡ notFinite (evaluated (view kind n s .blend)) (maxDensity (view kind n s .blend)) (view kind n s .task)
+unfolding numberIn
+request-27 kind n s = status-27 (view kind n s) (λ (e : view kind n s .task ≡ Refused 27). eqb-false (numberIn (view kind n s .task)) 27 (view-other kind n s) (ap numberIn e))
