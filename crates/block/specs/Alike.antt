@@ -39,7 +39,7 @@ pub record SameBytes (kind n : ℕ) (s t : List ℕ) : Type 0 where
 -- ---- 2. by the numbers, check after check in document 01's order
 
 -- A check of two blocks. Both are refused by it: what it is told from may differ, and nothing after it is read. Or both pass it: what it is told from is the
--- same, and so they go on to the next.
+-- same, and they go on to the next.
 pub data Stage {A : Type 0} (fits : A → Bool) (a b : A) (Same Next : Type 0) : Type 0 where
   both-refused : fits a ≡ false → fits b ≡ false → Stage fits a b Same Next
   both-pass : fits a ≡ true → fits b ≡ true → Same → Next → Stage fits a b Same Next
@@ -50,7 +50,7 @@ pub record SameConditions (c d : Conditions) : Type 0 where
   pub in-pressure : c .pressure ≡ d .pressure
   pub in-start : c .start ≡ d .start
 
--- 12 to 16
+-- 12 to 16, a line for each; what 16 is told from besides the choice is the same by then
 unfoldable pub SameData : (kind n : ℕ) (d e : Numbers) → Type 0
 SameData kind n d e =
     Stage (componentsFit n) (d .coefficients) (e .coefficients) (d .coefficients ≡ e .coefficients)
@@ -59,7 +59,7 @@ SameData kind n d e =
     (Stage (conditionsFit kind) (d .conditions) (e .conditions) (SameConditions (d .conditions) (e .conditions))
     (Stage (runFits kind n) d e (d .conditions .choice ≡ e .conditions .choice) (Unit {0})))))
 
--- 11, where offsets may differ, and then the numbers
+-- 11, which blocks with other offsets pass too, and then the numbers
 pub record SameNumbers (kind n : ℕ) (s t : List ℕ) : Type 0 where
   pub in-length : length s ≡ length t
   pub in-data : Stage (pairsFit n) s t (Unit {0}) (SameData kind n (numbersOf kind n s) (numbersOf kind n t))
