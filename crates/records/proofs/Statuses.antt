@@ -1,7 +1,7 @@
 -- The status of a request's sealed bytes is the one that its data's checks tell, and else the search's. Assumes nothing.
-use mathlib.Core.Path.{_≡_, refl, sym, ap, _∙_, subst}
-use Prim.Native.Nat.{ℕ, _+_, _^_, _≤_, _<_}
-use mathlib.Core.Bool.{Bool, true, false, cond}
+use mathlib.Core.Path.{_≡_, refl, sym, ap, _∙_}
+use Prim.Native.Nat.{ℕ, _+_, _^_, _<_}
+use mathlib.Core.Bool.{Bool, true, false}
 use mathlib.Core.List.{List, _++_}
 use native.Mathlib.Omega.{arith}
 use lib.ListN.{length, take, drop}
@@ -12,8 +12,6 @@ use borrow.Author.Tests.{eq-eqb}
 use Rattle.buf.specs.Bytes.{bytesOf, zeros, numAt, u64At, part, le}
 use Rattle.buf.proofs.Laws.{le-bytesOf, length-bytesOf}
 use Rattle.float.specs.Ops.{f0}
-use Rattle.eos.specs.declared.types.Blend.{Blend}
-use Rattle.eos.specs.Cubic.{maxDensity}
 use Rattle.solver.specs.declared.types.Refusal.the-variants.{StartNotPositive, NotConverged, IterationFailed, BothPhasesFailed, WrongBranch, Supercritical, NotFinite}
 use Rattle.solver.specs.declared.types.Answer.{Answer}
 use Rattle.solver.specs.declared.types.Answer.the-variants.{Found, Refused}
@@ -24,14 +22,12 @@ use Rattle.block.specs.declared.types.Job.{Job}
 use Rattle.block.specs.Numbers.{numbersOf}
 use Rattle.block.specs.Blend.{blendOf}
 use Rattle.block.specs.View.{taskOf, searched, refused, check, readyOf, checked, view}
-use Rattle.records.specs.declared.types.Outcome.{Outcome}
 use Rattle.records.specs.Outcome.{courseOf, refusedEnd, searchEnd, endOf, outcomeOf}
 use Rattle.records.specs.Record.{floatBytes, sealedBytes, sealedOf}
-use Rattle.schedule.specs.Spans.{spanOf}
 use Rattle.schedule.specs.Refusals.{Inside}
 use Rattle.schedule.proofs.Refusals.{inside-true}
 use Rattle.schedule.proofs.Tests.{span-within}
-use Rattle.records.specs.Statuses.{SearchStatus, found, Status, of-data, of-search, pairs, components, interactions, fractions, conditions, choice, maximum, DataTests, Sealed, Statuses}
+use Rattle.records.specs.Statuses.{SearchStatus, found, Status, of-data, of-search, pairs, components, interactions, fractions, conditions, choice, maximum, DataTests, Statuses}
 use Rattle.records.proofs.SpanLaws.{byKind, evaluations-most}
 
 -- ---- how a search ends
