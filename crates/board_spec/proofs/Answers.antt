@@ -1,23 +1,22 @@
 -- Which answer each call gives when, on any bytes. Assumes nothing.
 use mathlib.Core.Path.{_≡_, refl, sym, ap, _∙_, subst}
 use Prim.Native.Nat.{ℕ, zero, suc, _+_, _≤_, _<_}
-use mathlib.Core.Bool.{Bool, true, false, cond, _&&_}
+use mathlib.Core.Bool.{Bool, true, false, _&&_}
 use native.Mathlib.Omega.{arith}
 use lib.ListN.{length}
 use lib.Dec.{leb, ltb, eqb}
 use borrow.Author.Tests.{leb-true, ltb-true, ltb-false, lt-ltb, eq-eqb, ne-eqb, eqb-true, eqb-false}
 use Rattle.buf.specs.Bytes.{u64At}
 use Rattle.schedule.specs.Spans.{spanOf}
-use Rattle.schedule.specs.Schedule.{Verdict, accept, refuse, check, submitVerdict, turnVerdict, lookVerdict}
+use Rattle.schedule.specs.Schedule.{Verdict, accept, refuse, check}
 use Rattle.schedule.specs.Refusals.{SubmitTests, TurnTests, LookTests}
 use Rattle.schedule.proofs.Refusals.{refusals}
 use Rattle.schedule.proofs.Tests.{both, left-true, right-true, span-within}
-use Rattle.stepping.specs.Stepping.{stateFits}
 use Rattle.board_spec.specs.Layout.{heldAt, turnsAt}
 use Rattle.board_spec.specs.Quarter.{loadState, firstTicket, firstKind, slotsFit, runningFits, quarterFits, DidQuarter, turnQuarter}
-use Rattle.board_spec.specs.Board.{quarterOf, boardFits, Answer, Refused, Ticket, Turned, Shown, refusedDid, submitJudged, submitBoard, turnDid, turnJudged, turnBoard, lookJudged, lookBoard}
+use Rattle.board_spec.specs.Board.{quarterOf, boardFits, Answer, Turned, Shown, refusedDid, submitJudged, submitBoard, turnDid, turnJudged, turnBoard, lookJudged, lookBoard}
 use Rattle.board_spec.specs.Run.{Bytes}
-use Rattle.board_spec.specs.Demand1.{servedIn, countIn, heldIn, turnsIn, kindIn, Breaks6, another-length, turn-outside, quarter-outside, Passes6, SubmitAnswers, TurnAnswers, LookAnswers}
+use Rattle.board_spec.specs.Demand1.{servedIn, heldIn, turnsIn, kindIn, Breaks6, another-length, turn-outside, quarter-outside, Passes6, SubmitAnswers, TurnAnswers, LookAnswers}
 use Rattle.board_spec.proofs.Queue.{turn-idle, turn-out, turn-on}
 
 -- ---- 6

@@ -21,14 +21,12 @@ use Rattle.block.specs.declared.types.Conditions.{Conditions}
 use Rattle.block.specs.declared.types.Job.{Job}
 use Rattle.block.specs.Numbers.{numbersOf}
 use Rattle.block.specs.View.{taskOf, refused, check, runBlend, checked, view}
-use Rattle.records.specs.declared.types.Outcome.{Outcome}
 use Rattle.records.specs.Outcome.{courseOf, refusedEnd, searchEnd, endOf, outcomeOf}
 use Rattle.records.specs.Record.{floatBytes, sealedBytes, sealedOf}
-use Rattle.schedule.specs.Spans.{spanOf}
 use Rattle.schedule.specs.Refusals.{Inside}
 use Rattle.schedule.proofs.Refusals.{inside-true}
 use Rattle.schedule.proofs.Tests.{span-within}
-use Rattle.records.specs.Statuses.{SearchStatus, found, Status, of-data, of-search, pairs, components, interactions, fractions, conditions, run, DataTests, Sealed, Statuses}
+use Rattle.records.specs.Statuses.{SearchStatus, found, Status, of-data, of-search, pairs, components, interactions, fractions, conditions, run, DataTests, Statuses}
 use Rattle.records.proofs.SpanLaws.{byKind, evaluations-most}
 
 -- ---- how a search ends

@@ -1,12 +1,12 @@
 -- The verdicts are those that the tests tell. Assumes nothing.
 use mathlib.Core.Path.{_≡_, refl}
-use Prim.Native.Nat.{ℕ, _≤_, _<_}
+use Prim.Native.Nat.{ℕ}
 use mathlib.Core.Bool.{Bool, true, false, _&&_}
 use native.Mathlib.Omega.{arith}
 use lib.Dec.{leb, ltb, eqb}
 use borrow.Author.Tests.{le-leb, lt-leb, leb-true, leb-false, lt-ltb, le-ltb, ltb-true, ltb-false, eq-eqb, ne-eqb, eqb-true, eqb-false}
-use Rattle.schedule.specs.Schedule.{Verdict, accept, refuse, check, submitVerdict, turnVerdict, lookVerdict}
-use Rattle.schedule.specs.Refusals.{Exactly, Inside, Outside, below, above, SubmitTests, TurnTests, LookTests, Refusals}
+use Rattle.schedule.specs.Schedule.{Verdict, accept, check, submitVerdict, turnVerdict, lookVerdict}
+use Rattle.schedule.specs.Refusals.{Inside, Outside, below, above, SubmitTests, TurnTests, LookTests, Refusals}
 use Rattle.schedule.proofs.Tests.{both, left-true, right-true}
 
 -- ---- a range as its test
