@@ -138,6 +138,11 @@ module _ (q : Bytes) (l : length q ≡ quarterLength) (t : Tested q) (some : 1 �
 work-search : (ev : Evaluator) (w : Work) (search : Search.Job) (s : State) → w ≡ Work.Search search → going search (stepBy ev w s) ≡ wrapped (next finiteOf ev (going search s))
 work-search ev w search s e = rw e (work-next ev search s)
 
+one-evaluation : (job : Job) (search : Search.Job) (s : State) → workIn job ≡ Work.Search search
+    → going search (stepOf job s) ≡ wrapped (next finiteOf (evaluated (job .blend)) (going search s))
+unfolding stepOf
+one-evaluation job search s e = work-search _ _ search s e
+
 work-refused : (ev : Evaluator) (w : Work) (number : ℕ) (s : State) → w ≡ Work.Refused number → stepBy ev w s ≡ s
 unfolding stepBy
 work-refused ev w number s e = rw e
@@ -198,7 +203,7 @@ module _ (b buffer : Bytes) (queue : ℕ) (s : Serves b buffer queue) where
 
       search-next : (search : Search.Job) → workIn (jobIn b queue) ≡ Work.Search search
           → going search (stored b′ queue) ≡ wrapped (next finiteOf (evaluated (jobIn b queue .blend)) (going search (stored b queue)))
-      search-next search e = ap (going search) one-step ∙ unfold stepOf in (work-search _ _ search (stored b queue) e)
+      search-next search e = ap (going search) one-step ∙ one-evaluation (jobIn b queue) search (stored b queue) e
 
       refused-same : (number : ℕ) → workIn (jobIn b queue) ≡ Work.Refused number → stored b′ queue ≡ stored b queue
       refused-same number e = one-step ∙ unfold stepOf in (work-refused _ _ number (stored b queue) e)
@@ -241,6 +246,7 @@ look-reads b queue f h k = rw (f, le-leb queue 3 h, le-leb 1 (turnsIn b queue) k
 pub stored-only : StoredOnly
 stored-only =
     record {
+      one-evaluation = one-evaluation;
       later-turn = later;
       last-turn = last;
       first-turn = first;

@@ -64,6 +64,9 @@ pub record Hands (b buffer : Bytes) (queue : ℕ) (d : Did) : Type 0 where
       ≡ splice buffer 0 (recordBytes (firstTicket (quarterOf b queue)) (firstKind (quarterOf b queue)) queue (outcomeAt (stepOf (jobIn b queue) (stored b queue))))
 
 pub record StoredOnly : Type 0 where
+  -- a step from any state is the definition's: one evaluation of the search that is left there, counted modulo 2^64
+  pub one-evaluation : (job : Job) (search : Search.Job) (s : State) → workIn job ≡ Work.Search search
+      → going search (stepOf job s) ≡ wrapped (next finiteOf (evaluated (job .blend)) (going search s))
   -- "a later turn's new state is one step of the definition from those stored numbers"
   pub later-turn : (b buffer : Bytes) (queue : ℕ) → Serves b buffer queue → 1 ≤ turnsIn b queue → (Last b queue → ⊥) → Steps b (turnBoard b buffer .board) queue
   pub last-turn : (b buffer : Bytes) (queue : ℕ) → Serves b buffer queue → 1 ≤ turnsIn b queue → Last b queue → Hands b buffer queue (turnBoard b buffer)
