@@ -1,10 +1,10 @@
 -- A job's status is 27 exactly where specs/NotFinite.antt says. Assumes nothing.
 use mathlib.Core.Path.{_≡_, refl, ap}
 use Prim.Native.Nat.{ℕ}
-use mathlib.Core.Bool.{Bool, true, false, _&&_}
+use mathlib.Core.Bool.{Bool, true, false}
 use mathlib.Core.List.{List}
 use lib.ListN.{length}
-use lib.Dec.{leb, eqb}
+use lib.Dec.{eqb}
 use borrow.Author.Tests.{eqb-false, ne-eqb}
 use lib.Ieee.{Float}
 use Rattle.eos.specs.Cubic.{maxDensity}
@@ -18,8 +18,9 @@ use Rattle.block.specs.declared.types.Job.{Job}
 use Rattle.block.specs.declared.types.Task.{Task}
 use Rattle.block.specs.declared.types.Task.the-variants.{Refused, DensityIteration, DensityIterationStable, PressureSpinodal, PressureSpinodalBranch, CriticalPoint, Spinodal}
 use Rattle.block.specs.Pairs.{pairsFit}
-use Rattle.block.specs.Checks.{positive, componentsFit, interactionsFit, fractionsFit, conditionsFit, choiceFits}
-use Rattle.block.specs.View.{taskOf, refused, check, readyOf, checked, view}
+use Rattle.block.specs.Checks.{componentsFit, interactionsFit, fractionsFit, conditionsFit}
+use Rattle.block.specs.View.{taskOf, refused, check, runFits, checked, view}
+use Rattle.schedule.specs.Spans.{kindFits, countFits}
 use Rattle.records.specs.Outcome.{courseOf, refusedEnd, searchEnd, endOf, outcomeOf}
 use Rattle.records.specs.NotFinite.{notFinite}
 use Rattle.records.proofs.SpanLaws.{byKind}
@@ -71,18 +72,17 @@ task-other kind c = go (eqb kind 1) (eqb kind 2) (eqb kind 3) (eqb kind 4) (eqb 
     go false false false false false = refl
 
 view-other : (kind n : ℕ) (s : List ℕ) → Other (view kind n s)
-unfolding view checked readyOf
+unfolding view checked
 view-other kind n s =
-    check-other (leb 1 kind && leb kind 6) 2 _ refl
-    (check-other (leb 1 n && leb n 8) 3 _ refl
+    check-other (kindFits kind) 2 _ refl
+    (check-other (countFits n) 3 _ refl
     (check-other (eqb (length s) 640) 8 _ refl
     (check-other (pairsFit n s) 11 _ refl
     (check-other (componentsFit n _) 12 _ refl
     (check-other (interactionsFit n _) 13 _ refl
     (check-other (fractionsFit n _) 14 _ refl
     (check-other (conditionsFit kind _) 15 _ refl
-    (check-other (choiceFits kind n _) 16 _ refl
-    (check-other (positive _) 16 _ refl (task-other kind _))))))))))
+    (check-other (runFits kind n _) 16 _ refl (task-other kind _)))))))))
 
 pub request-27 : (kind n : ℕ) (s : List ℕ)
     → eqb (outcomeOf (view kind n s) .status) 27 ≡ notFinite (evaluated (view kind n s .blend)) (maxDensity (view kind n s .blend)) (view kind n s .task)
