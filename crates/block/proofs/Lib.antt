@@ -3,3 +3,4 @@ pub mod Sizes
 pub mod PairLaws
 pub mod BlendLaws
 pub mod AlikeLaws
+pub mod ViewLaws

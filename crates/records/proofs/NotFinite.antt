@@ -1,11 +1,11 @@
 -- A job's status is 27 exactly where specs/NotFinite.antt says. Assumes nothing.
 use mathlib.Core.Path.{_≡_, refl, ap}
 use Prim.Native.Nat.{ℕ}
-use mathlib.Core.Bool.{Bool, true, false}
+use mathlib.Core.Bool.{true, false}
 use mathlib.Core.List.{List}
-use lib.ListN.{length}
-use lib.Dec.{eqb}
-use borrow.Author.Tests.{eqb-false, ne-eqb}
+use native.Mathlib.Omega.{arith}
+use lib.Dec.{leb, eqb}
+use borrow.Author.Tests.{leb-true, eqb-false, ne-eqb}
 use lib.Ieee.{Float}
 use Rattle.eos.specs.Cubic.{maxDensity}
 use Rattle.solver.specs.Answer.{is27}
@@ -17,13 +17,11 @@ use Rattle.block.specs.declared.types.Conditions.{Conditions}
 use Rattle.block.specs.declared.types.Job.{Job}
 use Rattle.block.specs.declared.types.Task.{Task}
 use Rattle.block.specs.declared.types.Task.the-variants.{Refused, DensityIteration, DensityIterationStable, PressureSpinodal, PressureSpinodalBranch, CriticalPoint, Spinodal}
-use Rattle.block.specs.Pairs.{pairsFit}
-use Rattle.block.specs.Checks.{componentsFit, interactionsFit, fractionsFit, conditionsFit}
-use Rattle.block.specs.View.{taskOf, refused, check, runFits, checked, view}
-use Rattle.schedule.specs.Spans.{kindFits, countFits}
+use Rattle.block.specs.Numbers.{numbersOf}
+use Rattle.block.specs.View.{taskOf, refused, view}
+use Rattle.block.proofs.ViewLaws.{view-keeps, task-keeps}
 use Rattle.records.specs.Outcome.{courseOf, refusedEnd, searchEnd, endOf, outcomeOf}
 use Rattle.records.specs.NotFinite.{notFinite}
-use Rattle.records.proofs.SpanLaws.{byKind}
 
 module _ (ev : Evaluator) (maxdensity : Float) where
   task-27 : (task : Task) → (task ≡ Refused 27 → ⊥) → eqb (endOf ev (courseOf maxdensity task) .status) 27 ≡ notFinite ev maxdensity task
@@ -54,35 +52,16 @@ numberIn (Spinodal t) = 0
 abbrev Other : Job → Type 0
 Other job = eqb (numberIn (job .task)) 27 ≡ false
 
-check-other : (ok : Bool) (number : ℕ) (next : Job) → eqb number 27 ≡ false → Other next → Other (check ok number next)
+refused-other : (number : ℕ) → leb number 16 ≡ true → Other (refused number)
 unfolding refused numberIn
-check-other true number next e h = h
-check-other false number next e h = e
+refused-other number e = let h = leb-true number 16 e in ne-eqb number 27 (λ (z : number ≡ 27). omega arith)
 
 task-other : (kind : ℕ) (c : Conditions) → eqb (numberIn (taskOf kind c)) 27 ≡ false
-unfolding taskOf byKind numberIn
-task-other kind c = go (eqb kind 1) (eqb kind 2) (eqb kind 3) (eqb kind 4) (eqb kind 5)
-  where
-    go : (k₁ k₂ k₃ k₄ k₅ : Bool) → eqb (numberIn (byKind c k₁ k₂ k₃ k₄ k₅)) 27 ≡ false
-    go true k₂ k₃ k₄ k₅ = refl
-    go false true k₃ k₄ k₅ = refl
-    go false false true k₄ k₅ = refl
-    go false false false true k₅ = refl
-    go false false false false true = refl
-    go false false false false false = refl
+unfolding numberIn
+task-other kind c = task-keeps (λ (task : Task). eqb (numberIn task) 27 ≡ false) kind c refl refl refl refl refl refl
 
 view-other : (kind n : ℕ) (s : List ℕ) → Other (view kind n s)
-unfolding view checked
-view-other kind n s =
-    check-other (kindFits kind) 2 _ refl
-    (check-other (countFits n) 3 _ refl
-    (check-other (eqb (length s) 640) 8 _ refl
-    (check-other (pairsFit n s) 11 _ refl
-    (check-other (componentsFit n _) 12 _ refl
-    (check-other (interactionsFit n _) 13 _ refl
-    (check-other (fractionsFit n _) 14 _ refl
-    (check-other (conditionsFit kind _) 15 _ refl
-    (check-other (runFits kind n _) 16 _ refl (task-other kind _)))))))))
+view-other kind n s = view-keeps Other kind n s refused-other (task-other kind (numbersOf kind n s .conditions))
 
 pub request-27 : (kind n : ℕ) (s : List ℕ)
     → eqb (outcomeOf (view kind n s) .status) 27 ≡ notFinite (evaluated (view kind n s .blend)) (maxDensity (view kind n s .blend)) (view kind n s .task)

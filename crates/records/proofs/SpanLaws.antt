@@ -4,7 +4,6 @@ use native.Mathlib.Omega.{arith}
 use lib.Dec.{eqb}
 use mathlib.Core.Bool.{Bool, true, false, cond}
 use mathlib.Core.List.{List}
-use lib.ListN.{length}
 use lib.Ieee.{Float}
 use Rattle.float.specs.Sign.{finiteOf}
 use Rattle.eos.specs.Cubic.{maxDensity}
@@ -17,16 +16,15 @@ use Rattle.block.specs.declared.types.Conditions.{Conditions}
 use Rattle.block.specs.declared.types.Job.{Job}
 use Rattle.block.specs.declared.types.Task.{Task}
 use Rattle.block.specs.declared.types.Task.the-variants.{DensityIteration, DensityIterationStable, PressureSpinodal, PressureSpinodalBranch, CriticalPoint, Spinodal}
-use Rattle.block.specs.Pairs.{pairsFit}
 use Rattle.block.specs.Numbers.{numbersOf}
-use Rattle.block.specs.Checks.{componentsFit, interactionsFit, fractionsFit, conditionsFit}
-use Rattle.block.specs.View.{initialOf, branchOf, givenOf, taskOf, refused, check, runBlend, runFits, checked, view}
+use Rattle.block.specs.View.{initialOf, branchOf, givenOf, taskOf, refused, runBlend, view}
+use Rattle.block.proofs.ViewLaws.{view-keeps}
 use Rattle.records.specs.Outcome.{Course, courseOf, refusedEnd, searchEnd, endOf, jobCourse, outcomeOf}
-use Rattle.schedule.specs.Spans.{kindFits, countFits, spanOf}
+use Rattle.schedule.specs.Spans.{spanOf}
 use Rattle.records.specs.Span.{CourseWithin, refused-within, search-within}
 
 -- `taskOf`, from the tests of the kind
-unfoldable pub byKind : Conditions → (k₁ k₂ k₃ k₄ k₅ : Bool) → Task
+unfoldable byKind : Conditions → (k₁ k₂ k₃ k₄ k₅ : Bool) → Task
 byKind c k₁ k₂ k₃ k₄ k₅ =
     cond k₁ (DensityIteration (c .temperature) (c .pressure) (initialOf (c .choice) (c .start)))
     (cond k₂ (DensityIterationStable (c .temperature) (c .pressure))
@@ -47,26 +45,14 @@ task-within m kind c = go (eqb kind 1) (eqb kind 2) (eqb kind 3) (eqb kind 4) (e
     go false false false false true = search-within (critical-150 m (givenOf (c .temperature)) (givenOf (c .start)))
     go false false false false false = search-within (spinodal-250 m (c .temperature))
 
--- a check refuses, or goes on
-check-within : (n : ℕ) (ok : Bool) (number : ℕ) (next : Job) → CourseWithin n (jobCourse next) → CourseWithin n (jobCourse (check ok number next))
+refused-course : (m number : ℕ) → CourseWithin m (jobCourse (refused number))
 unfolding courseOf refused
-check-within n true number next h = h
-check-within n false number next h = refused-within
+refused-course m number = refused-within
 
 pub job-within : (kind n : ℕ) (s : List ℕ) → CourseWithin (spanOf kind) (jobCourse (view kind n s))
-unfolding view checked
 job-within kind n s =
     let d = numbersOf kind n s in
-    let m = spanOf kind in
-    check-within m (kindFits kind) 2 _
-    (check-within m (countFits n) 3 _
-    (check-within m (eqb (length s) 640) 8 _
-    (check-within m (pairsFit n s) 11 _
-    (check-within m (componentsFit n (d .coefficients)) 12 _
-    (check-within m (interactionsFit n (d .interactions)) 13 _
-    (check-within m (fractionsFit n (d .fractions)) 14 _
-    (check-within m (conditionsFit kind (d .conditions)) 15 _
-    (check-within m (runFits kind n d) 16 _ (task-within (maxDensity (runBlend kind n d)) kind (d .conditions))))))))))
+    view-keeps (λ (job : Job). CourseWithin (spanOf kind) (jobCourse job)) kind n s (λ number e. refused-course (spanOf kind) number) (task-within (maxDensity (runBlend kind n d)) kind (d .conditions))
 
 end-most : (ev : Evaluator) {n : ℕ} {course : Course} → CourseWithin n course → endOf ev course .evaluations ≤ n
 unfolding endOf refusedEnd searchEnd

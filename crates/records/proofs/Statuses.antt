@@ -1,11 +1,10 @@
 -- The status of a request's sealed bytes is the one that its data's checks tell, and else the search's. Assumes nothing.
-use mathlib.Core.Path.{_≡_, refl, sym, ap, _∙_, subst}
-use Prim.Native.Nat.{ℕ, _+_, _^_, _≤_, _<_}
-use mathlib.Core.Bool.{Bool, true, false, cond}
+use mathlib.Core.Path.{_≡_, refl, sym, ap, _∙_}
+use Prim.Native.Nat.{ℕ, _+_, _^_, _<_}
+use mathlib.Core.Bool.{Bool, true, false}
 use mathlib.Core.List.{List, _++_}
 use native.Mathlib.Omega.{arith}
 use lib.ListN.{length, take, drop}
-use lib.Dec.{eqb}
 use lib.Seq.{take-at, drop-append-add}
 use lib.Ieee.{Float, toBits, ofBits}
 use borrow.Author.Tests.{eq-eqb}
@@ -19,15 +18,17 @@ use Rattle.solver.specs.Answer.{numberOf, statusOf}
 use Rattle.solver.specs.Search.{Evaluator}
 use Rattle.block.specs.declared.types.Conditions.{Conditions}
 use Rattle.block.specs.declared.types.Job.{Job}
+use Rattle.block.specs.declared.types.Task.{Task}
 use Rattle.block.specs.Numbers.{numbersOf}
 use Rattle.block.specs.View.{taskOf, refused, check, runBlend, checked, view}
+use Rattle.block.proofs.ViewLaws.{task-keeps}
 use Rattle.records.specs.Outcome.{courseOf, refusedEnd, searchEnd, endOf, outcomeOf}
 use Rattle.records.specs.Record.{floatBytes, sealedBytes, sealedOf}
 use Rattle.schedule.specs.Refusals.{Inside}
 use Rattle.schedule.proofs.Refusals.{inside-true}
 use Rattle.schedule.proofs.Tests.{span-within}
 use Rattle.records.specs.Statuses.{SearchStatus, found, Status, of-data, of-search, pairs, components, interactions, fractions, conditions, run, DataTests, Statuses}
-use Rattle.records.proofs.SpanLaws.{byKind, evaluations-most}
+use Rattle.records.proofs.SpanLaws.{evaluations-most}
 
 -- ---- how a search ends
 
@@ -43,16 +44,9 @@ answer-status (Refused Supercritical) = SearchStatus.refused {number = 26} (omeg
 answer-status (Refused NotFinite) = SearchStatus.refused {number = 27} (omega arith)
 
 task-status : (ev : Evaluator) (m : Float) (kind : ℕ) (c : Conditions) → SearchStatus (endOf ev (courseOf m (taskOf kind c)) .status)
-unfolding taskOf courseOf byKind endOf searchEnd
-task-status ev m kind c = go (eqb kind 1) (eqb kind 2) (eqb kind 3) (eqb kind 4) (eqb kind 5)
-  where
-    go : (k₁ k₂ k₃ k₄ k₅ : Bool) → SearchStatus (endOf ev (courseOf m (byKind c k₁ k₂ k₃ k₄ k₅)) .status)
-    go true k₂ k₃ k₄ k₅ = answer-status _
-    go false true k₃ k₄ k₅ = answer-status _
-    go false false true k₄ k₅ = answer-status _
-    go false false false true k₅ = answer-status _
-    go false false false false true = answer-status _
-    go false false false false false = answer-status _
+unfolding courseOf endOf searchEnd
+task-status ev m kind c =
+    task-keeps (λ (task : Task). SearchStatus (endOf ev (courseOf m task) .status)) kind c (answer-status _) (answer-status _) (answer-status _) (answer-status _) (answer-status _) (answer-status _)
 
 -- ---- numbers one after the other
 

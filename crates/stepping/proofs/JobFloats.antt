@@ -1,12 +1,10 @@
 -- The floats that a request's job works with, and those of each of its states, are values of binary64, whatever kind, N and block are. Assumes nothing.
 use Prim.Native.Nat.{ℕ, _+_}
 use mathlib.Core.List.{List}
-use lib.ListN.{length}
 use lib.Dec.{eqb}
 use lib.Ieee.{Float, binary64}
 use lib.Ieee.Fits.{div-fits}
 use Rattle.buf.proofs.Floats.{f64-fits}
-use Rattle.schedule.specs.Spans.{kindFits, countFits}
 use Rattle.eos.specs.declared.types.Blend.{Blend}
 use Rattle.eos.specs.Cubic.{maxDensity}
 use Rattle.solver.specs.declared.types.DensityInitialization.{DensityInitialization}
@@ -18,15 +16,15 @@ use Rattle.solver_state.specs.declared.types.State.{State}
 use Rattle.solver_state.specs.declared.types.Job as Search
 use Rattle.solver_state.specs.State as Steps
 use Rattle.block.specs.declared.types.Conditions.{Conditions}
-use Rattle.block.specs.declared.types.Numbers.{Numbers}
 use Rattle.block.specs.declared.types.Task.{Task}
 use Rattle.block.specs.declared.types.Task.the-variants as Task
 use Rattle.block.specs.declared.types.Job.{Job}
-use Rattle.block.specs.Pairs.{pairsFit, offsetOf, conditions}
+use Rattle.block.specs.Pairs.{offsetOf, conditions}
 use Rattle.block.specs.Numbers.{usesPressure, usesStart, choiceOf, pressureOf, conditionsOf, numbersOf}
 use Rattle.block.specs.Numbers as Read
-use Rattle.block.specs.Checks.{plusZero, componentsFit, interactionsFit, fractionsFit, conditionsFit}
-use Rattle.block.specs.View.{initialOf, givenOf, taskOf, refused, runFits, checked, view}
+use Rattle.block.specs.Checks.{plusZero}
+use Rattle.block.specs.View.{initialOf, givenOf, taskOf, refused, view}
+use Rattle.block.proofs.ViewLaws.{view-keeps, task-keeps}
 use Rattle.stepping.specs.declared.types.Work.the-variants as Work
 use Rattle.stepping.specs.Stepping.{workOf, refusedState, startBy, startOf, uncounted, stepBy, stepOf}
 use Rattle.stepping.specs.Storable.{FloatsStorable}
@@ -74,34 +72,19 @@ unfolding givenOf
 given-fits x h = cond-keeps StartFits (plusZero x) _ _ tt h
 
 task-fits : (kind : ℕ) (c : Conditions) → Given c → TaskFits (taskOf kind c)
-unfolding taskOf
 task-fits kind c g =
-    cond-keeps TaskFits (eqb kind 1) _ _ (g .temperature, g .pressure, initial-fits (c .choice) (c .start) (g .start))
-    (cond-keeps TaskFits (eqb kind 2) _ _ (g .temperature, g .pressure)
-    (cond-keeps TaskFits (eqb kind 3) _ _ (g .temperature, g .start)
-    (cond-keeps TaskFits (eqb kind 4) _ _ (g .temperature)
-    (cond-keeps TaskFits (eqb kind 5) _ _ (given-fits (c .temperature) (g .temperature), given-fits (c .start) (g .start)) (g .temperature)))))
+    task-keeps TaskFits kind c (g .temperature, g .pressure, initial-fits (c .choice) (c .start) (g .start)) (g .temperature, g .pressure) (g .temperature, g .start) (g .temperature)
+    (given-fits (c .temperature) (g .temperature), given-fits (c .start) (g .start)) (g .temperature)
 
-abbrev JobFits : Job → Type 0
-JobFits job = TaskFits (job .task)
-
-checked-fits : (kind n : ℕ) (d : Numbers) → Given (d .conditions) → JobFits (checked kind n d)
-unfolding checked refused
-checked-fits kind n d g =
-    cond-keeps JobFits (componentsFit n (d .coefficients)) _ _
-    (cond-keeps JobFits (interactionsFit n (d .interactions)) _ _
-    (cond-keeps JobFits (fractionsFit n (d .fractions)) _ _
-    (cond-keeps JobFits (conditionsFit kind (d .conditions)) _ _
-    (cond-keeps JobFits (runFits kind n d) _ _ (task-fits kind (d .conditions) g) tt) tt) tt) tt) tt
+refused-fits : (number : ℕ) → TaskFits (refused number .task)
+unfolding refused
+refused-fits number = tt
 
 -- a request is refused, or the floats of its task fit
 pub view-fits : (kind n : ℕ) (block : List ℕ) → TaskFits (view kind n block .task)
-unfolding view refused numbersOf
+unfolding numbersOf
 view-fits kind n block =
-    cond-keeps JobFits (kindFits kind) _ _
-    (cond-keeps JobFits (countFits n) _ _
-    (cond-keeps JobFits (eqb (length block) 640) _ _
-    (cond-keeps JobFits (pairsFit n block) _ _ (checked-fits kind n (numbersOf kind n block) (conditions-read kind block (offsetOf block conditions))) tt) tt) tt) tt
+    view-keeps (λ (job : Job). TaskFits (job .task)) kind n block (λ number e. refused-fits number) (task-fits kind (numbersOf kind n block .conditions) (conditions-read kind block (offsetOf block conditions)))
 
 -- and so does the maximum density of any blend
 pub max-density-fits : (blend : Blend) → Fit (maxDensity blend)
