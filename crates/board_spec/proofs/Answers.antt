@@ -1,22 +1,23 @@
 -- Which answer each call gives when, on any bytes. Assumes nothing.
 use mathlib.Core.Path.{_≡_, refl, sym, ap, _∙_, subst}
-use Prim.Native.Nat.{ℕ, zero, suc, _+_, _≤_, _<_}
+use Prim.Native.Nat.{ℕ, _+_, _≤_}
 use mathlib.Core.Bool.{Bool, true, false, _&&_}
 use native.Mathlib.Omega.{arith}
 use lib.ListN.{length}
-use lib.Dec.{leb, ltb, eqb}
-use borrow.Author.Tests.{leb-true, ltb-true, ltb-false, lt-ltb, eq-eqb, ne-eqb, eqb-true, eqb-false}
+use lib.Dec.{ltb, eqb}
+use borrow.Author.Tests.{ltb-false, eq-eqb, ne-eqb, eqb-true, eqb-false}
 use Rattle.buf.specs.Bytes.{u64At}
 use Rattle.schedule.specs.Spans.{spanOf}
 use Rattle.schedule.specs.Schedule.{Verdict, accept, refuse, check}
 use Rattle.schedule.specs.Refusals.{SubmitTests, TurnTests, LookTests}
 use Rattle.schedule.proofs.Refusals.{refusals}
-use Rattle.schedule.proofs.Tests.{both, left-true, right-true, span-within}
-use Rattle.board_spec.specs.Layout.{heldAt, turnsAt}
-use Rattle.board_spec.specs.Quarter.{loadState, firstTicket, firstKind, slotsFit, runningFits, quarterFits, DidQuarter, turnQuarter}
-use Rattle.board_spec.specs.Board.{quarterOf, boardFits, Answer, Turned, Shown, refusedDid, submitJudged, submitBoard, turnDid, turnJudged, turnBoard, lookJudged, lookBoard}
+use Rattle.schedule.proofs.Tests.{span-within}
+use Rattle.board_spec.specs.Layout.{turnsAt}
+use Rattle.board_spec.specs.Quarter.{loadState, firstKind, quarterFits, DidQuarter, turnQuarter}
+use Rattle.board_spec.specs.Board.{quarterOf, servedIn, heldIn, turnsIn, kindIn, boardFits, Answer, Turned, Shown, refusedDid, submitJudged, submitBoard, turnDid, turnJudged, turnBoard, lookJudged, lookBoard}
 use Rattle.board_spec.specs.Run.{Bytes}
-use Rattle.board_spec.specs.Demand1.{servedIn, heldIn, turnsIn, kindIn, Breaks6, another-length, turn-outside, quarter-outside, Passes6, SubmitAnswers, TurnAnswers, LookAnswers}
+use Rattle.board_spec.specs.Demand1.{Breaks6, another-length, turn-outside, quarter-outside, Passes6, SubmitAnswers, TurnAnswers, LookAnswers}
+use Rattle.board_spec.proofs.Tested.{quarter-tested, board-tested, tested-board}
 use Rattle.board_spec.proofs.Queue.{turn-idle, turn-out, turn-on}
 
 -- ---- 6
@@ -24,35 +25,6 @@ use Rattle.board_spec.proofs.Queue.{turn-idle, turn-out, turn-on}
 -- whether the quarter of a queue is in range
 abbrev Fits : Bytes → Bool → ℕ → Type 0
 Fits b t queue = quarterFits (quarterOf b queue) ≡ t
-
-pub passes : (b : Bytes) → boardFits b ≡ true → Passes6 b
-unfolding boardFits
-passes b e =
-    let e₁ = right-true (eqb (length b) 24584) _ e in
-    let e₂ = right-true (ltb (servedIn b) 4) _ e₁ in
-    let e₃ = right-true (quarterFits (quarterOf b 0)) _ e₂ in
-    let e₄ = right-true (quarterFits (quarterOf b 1)) _ e₃ in
-    let low : servedIn b < 4 = ltb-true (servedIn b) 4 (left-true _ _ e₁) in
-    record {
-      length-is = eqb-true (length b) 24584 (left-true _ _ e);
-      turn-inside = omega arith;
-      quarters-inside = four (left-true _ _ e₂) (left-true _ _ e₃) (left-true _ _ e₄) (right-true (quarterFits (quarterOf b 2)) _ e₄);
-    }
-  where
-    four : Fits b true 0 → Fits b true 1 → Fits b true 2 → Fits b true 3 → (queue : ℕ) → queue ≤ 3 → Fits b true queue
-    four f₀ f₁ f₂ f₃ zero h = f₀
-    four f₀ f₁ f₂ f₃ (suc zero) h = f₁
-    four f₀ f₁ f₂ f₃ (suc (suc zero)) h = f₂
-    four f₀ f₁ f₂ f₃ (suc (suc (suc zero))) h = f₃
-    four f₀ f₁ f₂ f₃ (suc (suc (suc (suc queue)))) h = absurd (omega arith)
-
-pub passes-true : (b : Bytes) → Passes6 b → boardFits b ≡ true
-unfolding boardFits
-passes-true b p =
-    let q = p .quarters-inside in
-    let t = p .turn-inside in
-    let low : servedIn b < 4 = omega arith in
-    both _ _ (eq-eqb _ _ (p .length-is)) (both _ _ (lt-ltb _ _ low) (both _ _ (q 0 (omega arith)) (both _ _ (q 1 (omega arith)) (both _ _ (q 2 (omega arith)) (q 3 (omega arith))))))
 
 pub breaks : (b : Bytes) → boardFits b ≡ false → Breaks6 b
 unfolding boardFits
@@ -78,33 +50,20 @@ pub breaks-false : (b : Bytes) → Breaks6 b → boardFits b ≡ false
 breaks-false b h = go (boardFits b) refl
   where
     go : (t : Bool) → boardFits b ≡ t → boardFits b ≡ false
-    go true e = absurd (breaks-not b h (passes b e))
+    go true e = absurd (breaks-not b h (board-tested b e))
     go false e = e
 
 -- ---- what a quarter in range says of its jobs
-
-quarter-most : (q : Bytes) → quarterFits q ≡ true → u64At q heldAt ≤ 8
-unfolding quarterFits
-quarter-most q e = leb-true (u64At q heldAt) 8 (left-true _ _ e)
-
--- a job that has had a turn is held, and has a turn to come
-quarter-running : (q : Bytes) → quarterFits q ≡ true → 1 ≤ u64At q turnsAt → (1 ≤ u64At q heldAt) × (u64At q turnsAt < spanOf (firstKind q))
-unfolding quarterFits runningFits
-quarter-running q e h =
-    let r = right-true (slotsFit q (firstTicket q) (u64At q heldAt)) _ (right-true (leb (u64At q heldAt) 8) _ e) in
-    let some : eqb (u64At q turnsAt) 0 ≡ false = ne-eqb (u64At q turnsAt) 0 (λ z. omega arith) in
-    let f = rw some at r in
-    (leb-true 1 (u64At q heldAt) (left-true _ _ f), ltb-true (u64At q turnsAt) (spanOf (firstKind q)) (left-true _ _ (right-true (leb 1 (u64At q heldAt)) _ f)))
 
 turns-most : (q : Bytes) → quarterFits q ≡ true → u64At q turnsAt + 1 ≤ spanOf (firstKind q)
 turns-most q e = go (eqb (u64At q turnsAt) 0) refl
   where
     go : (t : Bool) → eqb (u64At q turnsAt) 0 ≡ t → u64At q turnsAt + 1 ≤ spanOf (firstKind q)
     go true z = let none = eqb-true (u64At q turnsAt) 0 z in let s = span-within (firstKind q) in omega arith
-    go false z = let n = eqb-false (u64At q turnsAt) 0 z in let r = quarter-running q e (omega arith) .1 in omega arith
+    go false z = let n = eqb-false (u64At q turnsAt) 0 z in let r = quarter-tested q e .running (omega arith) .below in omega arith
 
 pub held-most : (b : Bytes) → Passes6 b → (queue : ℕ) → queue ≤ 3 → heldIn b queue ≤ 8
-held-most b p queue h = quarter-most (quarterOf b queue) (p .quarters-inside queue h)
+held-most b p queue h = quarter-tested (quarterOf b queue) (p .quarters-inside queue h) .few
 
 -- ---- submit
 
@@ -115,14 +74,14 @@ module _ (b : Bytes) (queue kind n : ℕ) (block : Bytes) where
     where
       go : (t : Bool) → boardFits b ≡ t → (v : Verdict) → SubmitTests queue kind n (length block) (heldIn b queue) v → SubmitAnswers b queue kind n block (submitJudged b queue kind n block (check t 6 v) .answer)
       go false e v s = SubmitAnswers.refused-6 (breaks b e)
-      go true e accept s = SubmitAnswers.accepted (passes b e) s
-      go true e (refuse number) s = SubmitAnswers.refused (passes b e) s
+      go true e accept s = SubmitAnswers.accepted (board-tested b e) s
+      go true e (refuse number) s = SubmitAnswers.refused (board-tested b e) s
 
   pub submit-only : (a : Answer) → SubmitAnswers b queue kind n block a → submitBoard b queue kind n block .answer ≡ a
   unfolding submitBoard submitJudged refusedDid
   submit-only a (SubmitAnswers.refused-6 h) = rw (breaks-false b h)
-  submit-only a (SubmitAnswers.refused {number} p s) = rw (passes-true b p, refusals .submit queue kind n (length block) (heldIn b queue) .only (refuse number) s)
-  submit-only a (SubmitAnswers.accepted p s) = rw (passes-true b p, refusals .submit queue kind n (length block) (heldIn b queue) .only accept s)
+  submit-only a (SubmitAnswers.refused {number} p s) = rw (tested-board b p, refusals .submit queue kind n (length block) (heldIn b queue) .only (refuse number) s)
+  submit-only a (SubmitAnswers.accepted p s) = rw (tested-board b p, refusals .submit queue kind n (length block) (heldIn b queue) .only accept s)
 
 -- ---- turn
 
@@ -167,17 +126,17 @@ module _ (b buffer : Bytes) where
     where
       go : (x : Bool) → boardFits b ≡ x → (v : Verdict) → TurnTests (length buffer) v → TurnAnswers b buffer (turnJudged b buffer (check x 6 v) .answer)
       go false e v s = TurnAnswers.refused-6 (breaks b e)
-      go true e accept s = turned-by (passes b e) s
-      go true e (refuse number) s = TurnAnswers.refused (passes b e) s
+      go true e accept s = turned-by (board-tested b e) s
+      go true e (refuse number) s = TurnAnswers.refused (board-tested b e) s
 
   -- a turn that is accepted
   accepts : Passes6 b → TurnTests (length buffer) accept → turnBoard b buffer .answer ≡ Turned turned
   unfolding turnBoard turnJudged turnDid
-  accepts p s = rw (passes-true b p, refusals .turn (length buffer) .only accept s)
+  accepts p s = rw (tested-board b p, refusals .turn (length buffer) .only accept s)
 
   pub turn-only : (a : Answer) → TurnAnswers b buffer a → turnBoard b buffer .answer ≡ a
   turn-only a (TurnAnswers.refused-6 h) = unfold turnBoard turnJudged refusedDid in (rw (breaks-false b h))
-  turn-only a (TurnAnswers.refused {number} p s) = unfold turnBoard turnJudged refusedDid in (rw (passes-true b p, refusals .turn (length buffer) .only (refuse number) s))
+  turn-only a (TurnAnswers.refused {number} p s) = unfold turnBoard turnJudged refusedDid in (rw (tested-board b p, refusals .turn (length buffer) .only (refuse number) s))
   turn-only a (TurnAnswers.no-job p s e) = accepts p s ∙ ap Turned (idle-0 e)
   turn-only a (TurnAnswers.before-last p s h l) = accepts p s ∙ ap Turned (on-0 (λ e. omega arith) (λ e. omega arith))
   turn-only a (TurnAnswers.last p s h l) = accepts p s ∙ ap Turned (last-1 (λ e. omega arith) l)
@@ -187,7 +146,7 @@ module _ (b buffer : Bytes) where
 module _ (b : Bytes) (queue : ℕ) where
   looks : (p : Passes6 b) → LookTests queue (turnsIn b queue) accept → LookAnswers b queue (Shown (loadState (quarterOf b queue) .evaluations) (loadState (quarterOf b queue) .latest))
   unfolding loadState
-  looks p (LookTests.passed q h) = LookAnswers.shown p (LookTests.passed q h) (quarter-running (quarterOf b queue) (p .quarters-inside queue q) h .0)
+  looks p (LookTests.passed q h) = LookAnswers.shown p (LookTests.passed q h) (quarter-tested (quarterOf b queue) (p .quarters-inside queue q) .running h .held)
 
   pub look-holds : LookAnswers b queue (lookBoard b queue .answer)
   unfolding lookBoard lookJudged refusedDid
@@ -195,11 +154,11 @@ module _ (b : Bytes) (queue : ℕ) where
     where
       go : (x : Bool) → boardFits b ≡ x → (v : Verdict) → LookTests queue (turnsIn b queue) v → LookAnswers b queue (lookJudged b queue (check x 6 v) .answer)
       go false e v s = LookAnswers.refused-6 (breaks b e)
-      go true e accept s = looks (passes b e) s
-      go true e (refuse number) s = LookAnswers.refused (passes b e) s
+      go true e accept s = looks (board-tested b e) s
+      go true e (refuse number) s = LookAnswers.refused (board-tested b e) s
 
   pub look-only : (a : Answer) → LookAnswers b queue a → lookBoard b queue .answer ≡ a
   unfolding lookBoard lookJudged refusedDid loadState
   look-only a (LookAnswers.refused-6 h) = rw (breaks-false b h)
-  look-only a (LookAnswers.refused {number} p s) = rw (passes-true b p, refusals .look queue (turnsIn b queue) .only (refuse number) s)
-  look-only a (LookAnswers.shown p s h) = rw (passes-true b p, refusals .look queue (turnsIn b queue) .only accept s)
+  look-only a (LookAnswers.refused {number} p s) = rw (tested-board b p, refusals .look queue (turnsIn b queue) .only (refuse number) s)
+  look-only a (LookAnswers.shown p s h) = rw (tested-board b p, refusals .look queue (turnsIn b queue) .only accept s)

@@ -24,15 +24,16 @@ use Rattle.stepping.specs.States.{Request, stateAfter, outcomeAt}
 use Rattle.stepping.proofs.Laws.{stepping}
 use Rattle.board_spec.specs.Layout.{acceptedAt, heldAt, turnsAt}
 use Rattle.board_spec.specs.Quarter.{firstTicket, firstKind, DidQuarter, turnQuarter}
-use Rattle.board_spec.specs.Board.{quarterOf, boardFits, Answer, Refused, Ticket, Turned, refusedDid, submitJudged, submitBoard, turnDid, turnJudged, turnBoard, lookJudged, lookBoard}
+use Rattle.board_spec.specs.Board.{quarterOf, servedIn, countIn, heldIn, turnsIn, kindIn, boardFits, Answer, Refused, Ticket, Turned, refusedDid, submitJudged, submitBoard, turnDid, turnJudged, turnBoard, lookJudged, lookBoard}
 use Rattle.board_spec.specs.Run.{Bytes, Calls, zeroBoard, did, Reply, replyBy, bufferOf, Public, turning, publicOf}
 use Rattle.board_spec.specs.Rep.{Stands, stands, RepQueue}
 use Rattle.board_spec.specs.Demand3.{eventAt, Release}
-use Rattle.board_spec.specs.Demand1.{servedIn, countIn, heldIn, turnsIn, kindIn, SubmitAnswers, TurnAnswers, LookAnswers, Spans, SamePublic, Demand1}
+use Rattle.board_spec.specs.Demand1.{SubmitAnswers, TurnAnswers, LookAnswers, Spans, SamePublic, Demand1}
 use Rattle.board_spec.proofs.Queue.{turn-idle, turn-out, turn-on}
 use Rattle.board_spec.proofs.Sim.{zero-rep, submit-accepted, submit-same, look-same}
 use Rattle.board_spec.proofs.Runs.{rep-after, room, served-by, refused-unchanged}
-use Rattle.board_spec.proofs.Answers.{passes, held-most, submit-holds, submit-only, turn-holds, turn-only, look-holds, look-only}
+use Rattle.board_spec.proofs.Tested.{board-tested}
+use Rattle.board_spec.proofs.Answers.{held-most, submit-holds, submit-only, turn-holds, turn-only, look-holds, look-only}
 use Rattle.board_spec.proofs.Demand3.{orderly}
 
 -- ---- no number above 8
@@ -152,7 +153,7 @@ module _ (b b′ : Bytes) (same : SamePublic b b′) where
   turn-unseen buffer buffer′ l =
       let e : check (boardFits b) 6 (turnVerdict (length buffer)) ≡ check (boardFits b′) 6 (turnVerdict (length buffer′)) = rw (same .six, l) in
       rw e (turn-judged buffer buffer′ _ (λ a. (
-        passes b (check-ok (boardFits b) 6 _ (e ∙ a)) .turn-inside,
+        board-tested b (check-ok (boardFits b) 6 _ (e ∙ a)) .turn-inside,
         room (length buffer) (check-next (boardFits b) 6 _ (e ∙ a)),
         room (length buffer′) (check-next (boardFits b′) 6 _ a),
       )))

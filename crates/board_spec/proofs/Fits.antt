@@ -19,10 +19,11 @@ use Rattle.board_spec.specs.Layout.{quarterLength, turnAt, acceptedAt, h
 use Rattle.board_spec.specs.Quarter.{firstTicket, slotOf, firstSlot, firstKind, slotFits, quarterFits, submitQuarter, keptQuarter, freedQuarter, DidQuarter, turnQuarter}
 use Rattle.board_spec.specs.Board.{quarterOf, withQuarter, boardFits, refusedDid, submitJudged, submitBoard, turnDid, turnJudged, turnBoard}
 use Rattle.board_spec.specs.Run.{Bytes, Calls, did, boardAfter}
+use Rattle.board_spec.specs.Demand1.{Passes6}
 use Rattle.board_spec.specs.Fits.{PassesOn}
 use Rattle.board_spec.proofs.Bytes.{SameSlot, slot-tail}
 use Rattle.board_spec.proofs.Quarters.{slot-low, Added, added, freed}
-use Rattle.board_spec.proofs.Tested.{slots-at, slots-all, UnderWay, Tested, quarter-tested, tested-quarter, TestedBoard, board-tested, tested-board}
+use Rattle.board_spec.proofs.Tested.{slots-at, slots-all, UnderWay, Tested, quarter-tested, tested-quarter, board-tested, tested-board}
 use Rattle.board_spec.proofs.Queue.{turn-idle, turn-out, turn-on}
 use Rattle.board_spec.proofs.Sim.{length-quarter, length-with, quarter-turn, quarter-same, quarter-other, turn-with, submit-accepted}
 use Rattle.board_spec.proofs.Runs.{look-unchanged}
@@ -173,37 +174,37 @@ turn-good queue q buffer g = held (eqb (u64At q heldAt) 0) refl
 
 -- ---- a quarter is replaced
 
-module _ (b : Bytes) (t : TestedBoard b) where
+module _ (b : Bytes) (t : Passes6 b) where
   quarter-good : (queue : ℕ) → queue ≤ 3 → Good (quarterOf b queue)
-  quarter-good queue h = record { len = length-quarter b queue (t .len) h; tested = quarter-tested _ (t .each queue h) }
+  quarter-good queue h = record { len = length-quarter b queue (t .length-is) h; tested = quarter-tested _ (t .quarters-inside queue h) }
 
   module _ (queue : ℕ) (low : queue ≤ 3) (v : Bytes) (g : Good v) where
     with-each : (s : ℕ) → s ≤ 3 → (x : Bool) → eqb s queue ≡ x → quarterFits (quarterOf (withQuarter b queue v) s) ≡ true
     with-each s h true e =
-        ap (λ (i : ℕ). quarterFits (quarterOf (withQuarter b queue v) i)) (eqb-true s queue e) ∙ ap quarterFits (quarter-same b v queue (t .len) low (g .len)) ∙ tested-quarter v (g .tested)
-    with-each s h false e = ap quarterFits (quarter-other b v queue s (g .len) (eqb-false s queue e)) ∙ t .each s h
+        ap (λ (i : ℕ). quarterFits (quarterOf (withQuarter b queue v) i)) (eqb-true s queue e) ∙ ap quarterFits (quarter-same b v queue (t .length-is) low (g .len)) ∙ tested-quarter v (g .tested)
+    with-each s h false e = ap quarterFits (quarter-other b v queue s (g .len) (eqb-false s queue e)) ∙ t .quarters-inside s h
 
-    with-tested : TestedBoard (withQuarter b queue v)
+    with-tested : Passes6 (withQuarter b queue v)
     with-tested =
         record {
-          len = length-with b v queue ∙ t .len;
-          turn = rw (turn-with b v queue (g .len) low) (t .turn);
-          each = λ s h. with-each s h _ refl;
+          length-is = length-with b v queue ∙ t .length-is;
+          turn-inside = rw (turn-with b v queue (g .len) low) (t .turn-inside);
+          quarters-inside = λ s h. with-each s h _ refl;
         }
 
-turned-tested : (b : Bytes) (x : ℕ) → x ≤ 3 → TestedBoard b → TestedBoard (putU64 b turnAt x)
+turned-tested : (b : Bytes) (x : ℕ) → x ≤ 3 → Passes6 b → Passes6 (putU64 b turnAt x)
 turned-tested b x h t =
-    let len = t .len in
+    let len = t .length-is in
     record {
-      len = length-putNum 8 b turnAt x ∙ t .len;
-      turn = rw (get-put-same 8 b turnAt x (le-leb (turnAt + 8) (length b) (omega arith)) (omega arith)) h;
-      each = λ s k. ap quarterFits (quarter-turn b s x k) ∙ t .each s k;
+      length-is = length-putNum 8 b turnAt x ∙ t .length-is;
+      turn-inside = rw (get-put-same 8 b turnAt x (le-leb (turnAt + 8) (length b) (omega arith)) (omega arith)) h;
+      quarters-inside = λ s k. ap quarterFits (quarter-turn b s x k) ∙ t .quarters-inside s k;
     }
 
 -- ---- the calls
 
 module _ (b : Bytes) (f : boardFits b ≡ true) where
-  tested : TestedBoard b
+  tested : Passes6 b
   tested = board-tested b f
 
   submit-fits : (queue kind n : ℕ) (block : Bytes) (v : Verdict) → submitVerdict queue kind n (length block) (u64At (quarterOf b queue) heldAt) ≡ v → boardFits (submitJudged b queue kind n block v .board) ≡ true
@@ -220,8 +221,8 @@ module _ (b : Bytes) (f : boardFits b ≡ true) where
   unfolding turnJudged turnDid refusedDid
   turn-fits buffer accept =
       let at = u64At b turnAt in
-      let g = turn-good at (quarterOf b at) buffer (quarter-good b tested at (tested .turn)) in
-      tested-board _ (turned-tested _ (onward at) (onward-low at (tested .turn)) (with-tested b tested at (tested .turn) _ g))
+      let g = turn-good at (quarterOf b at) buffer (quarter-good b tested at (tested .turn-inside)) in
+      tested-board _ (turned-tested _ (onward at) (onward-low at (tested .turn-inside)) (with-tested b tested at (tested .turn-inside) _ g))
   turn-fits buffer (refuse number) = f
 
   call-fits : (c : Call Bytes) → boardFits (did b c .board) ≡ true

@@ -59,7 +59,7 @@ turn-with b v q lv h = ap Rattle.buf.specs.Bytes.le (part-splice-after b (quart
 -- ---- a board that stands for a schedule passes 6
 
 pub rep-fits : (σ : Schedule Bytes) (b : Bytes) → Rep σ b → boardFits b ≡ true
-rep-fits σ b r = tested-board b (record { len = r .len; turn = rw (r .turn) (r .low); each = λ s h. quarter-fits _ _ (quarterOf b s) (r .each s h) })
+rep-fits σ b r = tested-board b (record { length-is = r .len; turn-inside = rw (r .turn) (r .low); quarters-inside = λ s h. quarter-fits _ _ (quarterOf b s) (r .each s h) })
 
 -- ---- the fresh board
 

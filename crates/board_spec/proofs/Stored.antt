@@ -30,12 +30,13 @@ use Rattle.stepping.proofs.Laws.{stepping}
 use Rattle.stepping.proofs.Kept.{fits-kept, stored-kept, work-next}
 use Rattle.board_spec.specs.Layout.{quarterLength, acceptedAt, heldAt, turnsAt, countAt, blockAt}
 use Rattle.board_spec.specs.Quarter.{loadCounters, loadValues, loadState, firstTicket, firstSlot, firstKind, firstJob, slotFits, stateOf, steppedOf, keptQuarter, DidQuarter, turnQuarter}
-use Rattle.board_spec.specs.Board.{quarterOf, withQuarter, boardFits, Shown, Did, turnDid, turnJudged, turnBoard, lookJudged, lookBoard}
+use Rattle.board_spec.specs.Board.{quarterOf, withQuarter, turnsIn, boardFits, Shown, Did, turnDid, turnJudged, turnBoard, lookJudged, lookBoard}
 use Rattle.board_spec.specs.Run.{Bytes}
-use Rattle.board_spec.specs.Stored.{stored, jobIn, turnsIn, Last, Serves, Steps, Hands, StoredOnly}
+use Rattle.board_spec.specs.Demand1.{Passes6}
+use Rattle.board_spec.specs.Stored.{stored, jobIn, Last, Serves, Steps, Hands, StoredOnly}
 use Rattle.board_spec.proofs.Bytes.{SameSlot, slot-tail}
 use Rattle.board_spec.proofs.Quarters.{slot-low, Kept, kept}
-use Rattle.board_spec.proofs.Tested.{slots-at, Tested, quarter-tested, TestedBoard, board-tested}
+use Rattle.board_spec.proofs.Tested.{slots-at, Tested, quarter-tested, board-tested}
 use Rattle.board_spec.proofs.Queue.{job-same, turn-out, turn-on}
 use Rattle.board_spec.proofs.Sim.{length-quarter, quarter-turn, quarter-same}
 
@@ -156,17 +157,17 @@ module _ (b buffer : Bytes) (queue : ℕ) (s : Serves b buffer queue) where
   abbrev b′ : Bytes
   b′ = turnBoard b buffer .board
 
-  tested : TestedBoard b
+  tested : Passes6 b
   tested = board-tested b (s .fits)
 
   low : queue ≤ 3
-  low = rw (s .named) at (tested .turn)
+  low = rw (s .named) at (tested .turn-inside)
 
   length-q : length q ≡ quarterLength
-  length-q = length-quarter b queue (tested .len) low
+  length-q = length-quarter b queue (tested .length-is) low
 
   tested-q : Tested q
-  tested-q = quarter-tested q (tested .each queue low)
+  tested-q = quarter-tested q (tested .quarters-inside queue low)
 
   turn-is : turnBoard b buffer ≡ turnDid b queue (turnQuarter queue q buffer)
   unfolding turnBoard turnVerdict turnJudged
@@ -175,7 +176,7 @@ module _ (b buffer : Bytes) (queue : ℕ) (s : Serves b buffer queue) where
   -- the served quarter afterwards
   quarter-did : (d : DidQuarter) → length (d .quarter) ≡ quarterLength → quarterOf (turnDid b queue d .board) queue ≡ d .quarter
   unfolding turnDid
-  quarter-did d l = quarter-turn (withQuarter b queue (d .quarter)) queue (onward queue) low ∙ quarter-same b (d .quarter) queue (tested .len) low l
+  quarter-did d l = quarter-turn (withQuarter b queue (d .quarter)) queue (onward queue) low ∙ quarter-same b (d .quarter) queue (tested .length-is) low l
 
   quarter-after : (d : DidQuarter) → turnQuarter queue q buffer ≡ d → length (d .quarter) ≡ quarterLength → quarterOf b′ queue ≡ d .quarter
   quarter-after d e l = ap (λ (x : Did). quarterOf (x .board) queue) (turn-is ∙ ap (turnDid b queue) e) ∙ quarter-did d l

@@ -14,6 +14,7 @@ use Rattle.board_spec.specs.Layout.{boardLength, turnAt, heldAt, turnsAt
 use Rattle.board_spec.specs.Quarter.{loadState, firstTicket, slotOf, firstKind, slotFits, slotsFit, runningFits, quarterFits}
 use Rattle.board_spec.specs.Board.{quarterOf, boardFits}
 use Rattle.board_spec.specs.Run.{Bytes}
+use Rattle.board_spec.specs.Demand1.{Passes6}
 
 -- ---- the slots from a ticket on
 
@@ -79,12 +80,7 @@ tested-quarter q t = both _ _ (le-leb _ _ (t .few)) (both _ _ (t .slots) (go (eq
 
 -- ---- a board
 
-pub record TestedBoard (b : Bytes) : Type 0 where
-  pub len : length b ≡ boardLength
-  pub turn : u64At b turnAt ≤ 3
-  pub each : (queue : ℕ) → queue ≤ 3 → quarterFits (quarterOf b queue) ≡ true
-
-pub board-tested : (b : Bytes) → boardFits b ≡ true → TestedBoard b
+pub board-tested : (b : Bytes) → boardFits b ≡ true → Passes6 b
 unfolding boardFits
 board-tested b e =
     let f = right-true (eqb (length b) boardLength) _ e in
@@ -93,9 +89,9 @@ board-tested b e =
     let g₁ = right-true (fits 0) _ g in
     let g₂ = right-true (fits 1) _ g₁ in
     record {
-      len = eqb-true (length b) boardLength (left-true (eqb (length b) boardLength) _ e);
-      turn = omega arith;
-      each = one (left-true (fits 0) _ g) (left-true (fits 1) _ g₁) (left-true (fits 2) _ g₂) (right-true (fits 2) _ g₂);
+      length-is = eqb-true (length b) boardLength (left-true (eqb (length b) boardLength) _ e);
+      turn-inside = omega arith;
+      quarters-inside = one (left-true (fits 0) _ g) (left-true (fits 1) _ g₁) (left-true (fits 2) _ g₂) (right-true (fits 2) _ g₂);
     }
   where
     fits : ℕ → Bool
@@ -108,9 +104,9 @@ board-tested b e =
     one e₀ e₁ e₂ e₃ (suc (suc (suc zero))) h = e₃
     one e₀ e₁ e₂ e₃ (suc (suc (suc (suc n)))) h = absurd (omega arith)
 
-pub tested-board : (b : Bytes) → TestedBoard b → boardFits b ≡ true
+pub tested-board : (b : Bytes) → Passes6 b → boardFits b ≡ true
 unfolding boardFits
 tested-board b t =
-    let low : u64At b turnAt < 4 = omega (arith, t .turn) in
-    let q = t .each in
-    both _ _ (eq-eqb _ _ (t .len)) (both _ _ (lt-ltb _ _ low) (both _ _ (q 0 (omega arith)) (both _ _ (q 1 (omega arith)) (both _ _ (q 2 (omega arith)) (q 3 (omega arith))))))
+    let low : u64At b turnAt < 4 = omega (arith, t .turn-inside) in
+    let q = t .quarters-inside in
+    both _ _ (eq-eqb _ _ (t .length-is)) (both _ _ (lt-ltb _ _ low) (both _ _ (q 0 (omega arith)) (both _ _ (q 1 (omega arith)) (both _ _ (q 2 (omega arith)) (q 3 (omega arith))))))

@@ -8,7 +8,7 @@ use lib.Ieee.{Float}
 use Rattle.buf.specs.Bytes.{part, splice, u64At, putU64}
 use Rattle.schedule.specs.Schedule.{Verdict, accept, refuse, check, submitVerdict, turnVerdict, lookVerdict, onward}
 use Rattle.board_spec.specs.Layout.{boardLength, quarterLength, turnAt, acceptedAt, heldAt, turnsAt}
-use Rattle.board_spec.specs.Quarter.{loadState, quarterFits, submitQuarter, DidQuarter, turnQuarter}
+use Rattle.board_spec.specs.Quarter.{loadState, firstKind, quarterFits, submitQuarter, DidQuarter, turnQuarter}
 
 -- the quarter of a queue
 unfoldable pub quarterOf : List ℕ → (queue : ℕ) → List ℕ
@@ -17,6 +17,24 @@ quarterOf b queue = part b (quarterLength * queue) quarterLength
 -- the board with another quarter for a queue
 unfoldable pub withQuarter : List ℕ → (queue : ℕ) → List ℕ → List ℕ
 withQuarter b queue q = splice b (quarterLength * queue) q
+
+-- ---- what a board stores: the queue that the next turn serves,
+abbrev pub servedIn : List ℕ → ℕ
+servedIn b = u64At b turnAt
+
+-- of a queue the jobs accepted, modulo 2^64, and the jobs held,
+abbrev pub countIn : List ℕ → (queue : ℕ) → ℕ
+countIn b queue = u64At (quarterOf b queue) acceptedAt
+
+abbrev pub heldIn : List ℕ → (queue : ℕ) → ℕ
+heldIn b queue = u64At (quarterOf b queue) heldAt
+
+-- and of its first job the turns had and the kind
+abbrev pub turnsIn : List ℕ → (queue : ℕ) → ℕ
+turnsIn b queue = u64At (quarterOf b queue) turnsAt
+
+abbrev pub kindIn : List ℕ → (queue : ℕ) → ℕ
+kindIn b queue = firstKind (quarterOf b queue)
 
 -- "6 board of another length or a stored number outside its range"
 unfoldable pub boardFits : List ℕ → Bool

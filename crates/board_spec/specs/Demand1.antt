@@ -12,31 +12,11 @@ use Rattle.schedule.specs.Spans.{spanOf}
 use Rattle.schedule.specs.Schedule.{Call, accept, refuse, mapCall}
 use Rattle.schedule.specs.Refusals.{Exactly, Inside, SubmitTests, TurnTests, LookTests}
 use Rattle.stepping.specs.States.{stateAfter, outcomeAt}
-use Rattle.board_spec.specs.Layout.{turnAt, acceptedAt, heldAt, turnsAt, evaluationsAt, latestAt}
-use Rattle.board_spec.specs.Quarter.{firstKind, quarterFits}
-use Rattle.board_spec.specs.Board.{quarterOf, boardFits, Answer, Refused, Ticket, Turned, Shown, submitBoard, turnBoard, lookBoard}
+use Rattle.board_spec.specs.Layout.{evaluationsAt, latestAt}
+use Rattle.board_spec.specs.Quarter.{quarterFits}
+use Rattle.board_spec.specs.Board.{quarterOf, servedIn, countIn, heldIn, turnsIn, kindIn, boardFits, Answer, Refused, Ticket, Turned, Shown, submitBoard, turnBoard, lookBoard}
 use Rattle.board_spec.specs.Run.{Bytes, Calls, did, replyBy, bufferOf, publicOf}
 use Rattle.board_spec.specs.Demand3.{Release, sealedIn}
-
--- ---- the numbers that a board stores
-
--- "A turn serves the queue it names"
-abbrev pub servedIn : Bytes → ℕ
-servedIn b = u64At b turnAt
-
--- of a queue: the jobs accepted, modulo 2^64, and the jobs held
-abbrev pub countIn : Bytes → (queue : ℕ) → ℕ
-countIn b queue = u64At (quarterOf b queue) acceptedAt
-
-abbrev pub heldIn : Bytes → (queue : ℕ) → ℕ
-heldIn b queue = u64At (quarterOf b queue) heldAt
-
--- of its first job: the turns had and the kind
-abbrev pub turnsIn : Bytes → (queue : ℕ) → ℕ
-turnsIn b queue = u64At (quarterOf b queue) turnsAt
-
-abbrev pub kindIn : Bytes → (queue : ℕ) → ℕ
-kindIn b queue = firstKind (quarterOf b queue)
 
 -- ---- "6 board of another length or a stored number outside its range"
 

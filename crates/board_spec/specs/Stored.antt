@@ -11,16 +11,15 @@ use Rattle.solver.specs.Evaluated.{evaluated}
 use Rattle.solver_state.specs.declared.types.State.{State}
 use Rattle.solver_state.specs.declared.types.Job as Search
 use Rattle.solver_state.specs.State.{going}
-use Rattle.buf.specs.Bytes.{splice, u64At}
+use Rattle.buf.specs.Bytes.{splice}
 use Rattle.block.specs.declared.types.Job.{Job}
 use Rattle.records.specs.Record.{recordBytes}
 use Rattle.schedule.specs.Spans.{spanOf}
 use Rattle.stepping.specs.declared.types.Work.the-variants as Work
 use Rattle.stepping.specs.Stepping.{workIn, startOf, stepOf}
 use Rattle.stepping.specs.States.{outcomeAt, wrapped}
-use Rattle.board_spec.specs.Layout.{turnAt, heldAt, turnsAt}
-use Rattle.board_spec.specs.Quarter.{loadState, firstTicket, firstKind, firstJob}
-use Rattle.board_spec.specs.Board.{quarterOf, boardFits, Turned, Shown, Did, turnBoard, lookBoard}
+use Rattle.board_spec.specs.Quarter.{loadState, firstTicket, firstJob}
+use Rattle.board_spec.specs.Board.{quarterOf, servedIn, heldIn, turnsIn, kindIn, boardFits, Turned, Shown, Did, turnBoard, lookBoard}
 use Rattle.board_spec.specs.Run.{Bytes}
 
 -- the numbers that a queue's quarter stores, and the job in its first slot
@@ -30,17 +29,14 @@ stored b queue = loadState (quarterOf b queue)
 abbrev pub jobIn : Bytes → (queue : ℕ) → Job
 jobIn b queue = firstJob (quarterOf b queue)
 
-abbrev pub turnsIn : Bytes → (queue : ℕ) → ℕ
-turnsIn b queue = u64At (quarterOf b queue) turnsAt
-
 -- the next turn of the queue is the last of its first job's span
 abbrev pub Last : Bytes → (queue : ℕ) → Type 0
-Last b queue = turnsIn b queue + 1 ≡ spanOf (firstKind (quarterOf b queue))
+Last b queue = turnsIn b queue + 1 ≡ spanOf (kindIn b queue)
 
 -- a turn that is accepted and serves this queue, on any board that passes 6
 pub record Serves (b buffer : Bytes) (queue : ℕ) : Type 0 where
   pub fits : boardFits b ≡ true
-  pub named : u64At b turnAt ≡ queue
+  pub named : servedIn b ≡ queue
   pub room : 64 ≤ length buffer
 
 -- a turn before the span's last, from the board b to the board b′
@@ -61,7 +57,7 @@ pub record Hands (b buffer : Bytes) (queue : ℕ) (d : Did) : Type 0 where
   pub answer : d .answer ≡ Turned 1
   pub written :
       d .buffer
-      ≡ splice buffer 0 (recordBytes (firstTicket (quarterOf b queue)) (firstKind (quarterOf b queue)) queue (outcomeAt (stepOf (jobIn b queue) (stored b queue))))
+      ≡ splice buffer 0 (recordBytes (firstTicket (quarterOf b queue)) (kindIn b queue) queue (outcomeAt (stepOf (jobIn b queue) (stored b queue))))
 
 pub record StoredOnly : Type 0 where
   -- a step from any state is the definition's: one evaluation of the search that is left there, counted modulo 2^64
@@ -71,7 +67,7 @@ pub record StoredOnly : Type 0 where
   pub later-turn : (b buffer : Bytes) (queue : ℕ) → Serves b buffer queue → 1 ≤ turnsIn b queue → (Last b queue → ⊥) → Steps b (turnBoard b buffer .board) queue
   pub last-turn : (b buffer : Bytes) (queue : ℕ) → Serves b buffer queue → 1 ≤ turnsIn b queue → Last b queue → Hands b buffer queue (turnBoard b buffer)
   -- "A queue's free turn takes in its oldest job, checks it and makes its first evaluation", whatever numbers stand there
-  pub first-turn : (b buffer : Bytes) (queue : ℕ) → Serves b buffer queue → turnsIn b queue ≡ 0 → 1 ≤ u64At (quarterOf b queue) heldAt
+  pub first-turn : (b buffer : Bytes) (queue : ℕ) → Serves b buffer queue → turnsIn b queue ≡ 0 → 1 ≤ heldIn b queue
       → stored (turnBoard b buffer .board) queue ≡ stepOf (jobIn b queue) (startOf (jobIn b queue))
   -- "a look only reads them"
   pub look : (b : Bytes) (queue : ℕ) → boardFits b ≡ true → queue ≤ 3 → 1 ≤ turnsIn b queue
