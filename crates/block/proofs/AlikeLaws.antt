@@ -15,9 +15,10 @@ use Rattle.block.specs.declared.types.Numbers.{Numbers}
 use Rattle.block.specs.declared.types.Job.{Job}
 use Rattle.block.specs.Pairs.{offsetOf, lengthOf, coefficients, interactions, fractions, conditions, lengthsFit, offsetsFit, pairsFit}
 use Rattle.block.specs.Numbers.{floatsAt, readsFractions, fractionCount, usesChoice, usesPressure, usesStart, choiceOf, pressureOf, startOf, conditionsOf, numbersOf}
-use Rattle.block.specs.View.{taskOf, check, runBlend, checked, view}
+use Rattle.block.specs.View.{check, checked, view}
 use Rattle.block.specs.Alike.{SameRead, SameBytes, Stage, both-refused, both-pass, SameConditions, SameData, SameNumbers, Alike}
 use Rattle.block.proofs.Lists.{tabulate-same}
+use Rattle.block.proofs.ViewLaws.{readyJob}
 
 -- ---- numbers in bytes that are the same, in one block at index at and in the other at index to
 
@@ -158,7 +159,7 @@ data-alike kind n d e a =
     (λ ei a₂. stage-same 14 _ _ a₂
     (λ ex a₃. stage-same 15 _ _ a₃
     (λ es a₄. stage-same 16 _ _ a₄
-    (λ eq _. ap (λ (f : Numbers). record { task = taskOf kind (f .conditions); blend = runBlend kind n f }) (all-same d e ec ei ex es eq))))))
+    (λ eq _. ap (readyJob kind n) (all-same d e ec ei ex es eq))))))
 
 pub numbers-alike : (kind n : ℕ) (s t : List ℕ) → SameNumbers kind n s t → Alike kind n s t
 unfolding view

@@ -8,12 +8,10 @@ use native.Mathlib.Omega.{arith}
 use lib.ListN.{length}
 use lib.Dec.{eqb}
 use Rattle.buf.specs.Bytes.{part, splice, u64At}
-use Rattle.buf.proofs.Laws.{splice-append, part-splice-before, part-splice-same}
 use Rattle.block.specs.View.{view}
 use Rattle.records.specs.declared.types.Outcome.{Outcome}
 use Rattle.records.specs.Record.{publicBytes, sealedBytes, recordBytes, sealedOf}
 use Rattle.records.specs.Statuses.{Sealed}
-use Rattle.records.proofs.RecordLaws.{length-public}
 use Rattle.records.proofs.Statuses.{statuses}
 use Rattle.schedule.specs.Spans.{spanOf}
 use Rattle.schedule.specs.Schedule.{Held, Schedule, Call, Submit, Turn, Look, served, Verdict, accept, refuse, check, submitVerdict, turnVerdict, lookVerdict, Undergone, turned, undergo, verdict, serves, turnTaken, acts, judged, happens, afterAll, fresh, mapCall}
@@ -31,7 +29,7 @@ use Rattle.board_spec.specs.Demand3.{eventAt, Release}
 use Rattle.board_spec.specs.Demand1.{SubmitAnswers, TurnAnswers, LookAnswers, Spans, SamePublic, Demand1}
 use Rattle.board_spec.proofs.Queue.{turn-idle, turn-out, turn-on}
 use Rattle.board_spec.proofs.Sim.{zero-rep, submit-accepted, submit-same, look-same}
-use Rattle.board_spec.proofs.Runs.{rep-after, room, served-by, refused-unchanged}
+use Rattle.board_spec.proofs.Runs.{rep-after, room, first-16, served-by, refused-unchanged}
 use Rattle.board_spec.proofs.Tested.{board-tested}
 use Rattle.board_spec.proofs.Answers.{held-most, submit-holds, submit-only, turn-holds, turn-only, look-holds, look-only}
 use Rattle.board_spec.proofs.Demand3.{orderly}
@@ -89,12 +87,7 @@ publicTurn queue count held turns kind =
 
 record-public : (buffer : Bytes) (ticket kind queue : ℕ) (o : Outcome) → 64 ≤ length buffer → part (splice buffer 0 (recordBytes ticket kind queue o)) 0 16 ≡ publicBytes ticket kind queue
 unfolding recordBytes
-record-public buffer ticket kind queue o h =
-    let p = publicBytes ticket kind queue in
-    let lp : length p ≡ 16 = length-public ticket kind queue in
-    ap (λ (w : Bytes). part w 0 16) (splice-append p (sealedBytes o) buffer 0)
-    ∙ part-splice-before (splice buffer 0 p) (0 + length p) (sealedBytes o) 0 16 (omega arith)
-    ∙ part-splice-same buffer 0 p 16 lp (omega arith)
+record-public buffer ticket kind queue o h = first-16 buffer ticket kind queue (sealedBytes o) h
 
 abbrev quarterReply : DidQuarter → Reply
 quarterReply d = record { answer = Turned (d .answer); buffer = d .buffer }

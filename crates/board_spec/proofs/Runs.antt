@@ -1,7 +1,7 @@
 -- Whole runs from the fresh board, what is public of them, and calls that change nothing. Assumes nothing.
 use mathlib.Core.Path.{_≡_, refl, sym, ap, _∙_}
 use Prim.Native.Nat.{ℕ, _+_, _≤_}
-use mathlib.Core.List.{List, [], _∷_, map}
+use mathlib.Core.List.{List, [], _∷_, _++_, map}
 use mathlib.Core.Option.{Option, none, some}
 use native.Mathlib.Omega.{arith}
 use lib.ListN.{length}
@@ -74,15 +74,18 @@ length-of-sealed : (kind n : ℕ) (block : Bytes) → length (sealedOf kind n bl
 unfolding sealedOf
 length-of-sealed kind n block = length-sealed (outcomeOf (view kind n block))
 
-pub public-part : (buffer : Bytes) (queue : ℕ) (j : Held Bytes) → 64 ≤ length buffer → part (splice buffer 0 (recordOf queue j)) 0 16 ≡ publicBytes (j .ticket) (j .kind) queue
-unfolding recordOf
-public-part buffer queue j h =
-    let p = publicBytes (j .ticket) (j .kind) queue in
-    let s = sealedOf (j .kind) (j .n) (j .block) in
-    let lp : length p ≡ 16 = length-public (j .ticket) (j .kind) queue in
+-- the first 16 bytes of a record, whatever is sealed in it
+pub first-16 : (buffer : Bytes) (ticket kind queue : ℕ) (s : Bytes) → 64 ≤ length buffer → part (splice buffer 0 (publicBytes ticket kind queue ++ s)) 0 16 ≡ publicBytes ticket kind queue
+first-16 buffer ticket kind queue s h =
+    let p = publicBytes ticket kind queue in
+    let lp : length p ≡ 16 = length-public ticket kind queue in
     ap (λ (w : Bytes). part w 0 16) (splice-append p s buffer 0)
     ∙ part-splice-before (splice buffer 0 p) (0 + length p) s 0 16 (omega arith)
     ∙ part-splice-same buffer 0 p 16 lp (omega arith)
+
+pub public-part : (buffer : Bytes) (queue : ℕ) (j : Held Bytes) → 64 ≤ length buffer → part (splice buffer 0 (recordOf queue j)) 0 16 ≡ publicBytes (j .ticket) (j .kind) queue
+unfolding recordOf
+public-part buffer queue j h = first-16 buffer (j .ticket) (j .kind) queue (sealedOf (j .kind) (j .n) (j .block)) h
 
 pub sealed-part : (buffer : Bytes) (queue : ℕ) (j : Held Bytes) → 64 ≤ length buffer → part (splice buffer 0 (recordOf queue j)) sealedAt 48 ≡ sealedOf (j .kind) (j .n) (j .block)
 unfolding recordOf

@@ -1,7 +1,7 @@
 -- Demand 2: a clean request has the Rust's sealed bytes. Assumes nothing.
 use mathlib.Core.Path.{_≡_, ap}
 use Prim.Native.Nat.{ℕ}
-use mathlib.Core.Bool.{true, false}
+use mathlib.Core.Bool.{true}
 use mathlib.Core.List.{List}
 use native.Mathlib.Omega.{arith}
 use Rattle.solver.specs.Search.{Evaluator}

@@ -20,8 +20,8 @@ use Rattle.block.specs.declared.types.Conditions.{Conditions}
 use Rattle.block.specs.declared.types.Job.{Job}
 use Rattle.block.specs.declared.types.Task.{Task}
 use Rattle.block.specs.Numbers.{numbersOf}
-use Rattle.block.specs.View.{taskOf, refused, check, runBlend, checked, view}
-use Rattle.block.proofs.ViewLaws.{task-keeps}
+use Rattle.block.specs.View.{taskOf, refused, check, checked, view}
+use Rattle.block.proofs.ViewLaws.{readyJob, task-keeps}
 use Rattle.records.specs.Outcome.{courseOf, refusedEnd, searchEnd, endOf, outcomeOf}
 use Rattle.records.specs.Record.{floatBytes, sealedBytes, sealedOf}
 use Rattle.schedule.specs.Refusals.{Inside}
@@ -76,9 +76,8 @@ module _ (kind n : ℕ) (block : List ℕ) (k : Inside 1 6 kind) (c : Inside 1 8
   abbrev job : Job
   job = view kind n block
 
-  -- the job whose checks are passed
   abbrev ready : Job
-  ready = record { task = taskOf kind (numbersOf kind n block .conditions); blend = runBlend kind n (numbersOf kind n block) }
+  ready = readyJob kind n (numbersOf kind n block)
 
   ready-status : SearchStatus (outcomeOf ready .status)
   unfolding outcomeOf

@@ -1,7 +1,7 @@
 -- Kinds 5 and 6 answer 27 exactly where specs/NotFinite.antt says. Assumes nothing.
 use mathlib.Core.Path.{_≡_, refl, ap, _∙_}
 use Prim.Native.Nat.{ℕ, zero, suc}
-use mathlib.Core.Bool.{Bool, true, false, not, _||_}
+use mathlib.Core.Bool.{false, not}
 use mathlib.Core.List.{List, [], _∷_}
 use lib.Ieee.{Float, lt}
 use Rattle.float.specs.Sign.{absOf}
@@ -16,7 +16,7 @@ use Rattle.solver.specs.declared.types.Values.{Values}
 use Rattle.solver.specs.declared.types.Answer.{Answer}
 use Rattle.solver.specs.declared.types.Answer.the-variants.{Found, Refused}
 use Rattle.solver.specs.Answer.{numberOf, statusOf, is27}
-use Rattle.solver.specs.Search.{Evaluator, Search, run, clean, answerOf, foundAnd, Ruled}
+use Rattle.solver.specs.Search.{Evaluator, Search, run, clean, answerOf, Ruled}
 use Rattle.solver.proofs.Rule.{exactly-27, answer-bind, then-told, then-never, ruled-done, ruled-asks, ruled-tested, ruled-cond}
 use Rattle.solver_critical.specs.declared.types.Start.{Start}
 use Rattle.solver_critical.specs.declared.types.Start.the-variants.{None, Given}

@@ -1,8 +1,8 @@
 -- "equal potentials give liquid": of the definition for any two potentials, and of kind 2's last part with any equation of state. Assumes nothing.
-use mathlib.Core.Path.{_≡_, refl}
+use mathlib.Core.Path.{_≡_}
 use Prim.Native.Nat.{ℕ, _+_}
-use mathlib.Core.Bool.{true, false, cond}
-use lib.Ieee.{Float, eq, lt}
+use mathlib.Core.Bool.{true}
+use lib.Ieee.{Float, eq}
 use Rattle.float.specs.Sign.{finiteOf}
 use Rattle.float.proofs.SignLaws.{equal-not-below, not-below-itself}
 use Rattle.solver.specs.declared.types.Values.{Values}

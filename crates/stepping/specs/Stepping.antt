@@ -78,7 +78,7 @@ dataRefusal c = atEnd c && (eqb (c .left) 0 && (eqb (c .way) 0 && (eqb (c .round
 unfoldable pub stateFits : State → Bool
 stateFits s = inRanges (s .numbers .counters) || dataRefusal (s .numbers .counters)
 
--- status and floats of an end; where a state is no end, which no job's last turn leaves, 22 and +0
+-- status and floats of an end, as they are stored; where a state is no end, which no job of a fresh board leaves in its last turn, 22 and +0
 unfoldable pub resultOf : State → Ended
 resultOf s =
     cond (atEnd (s .numbers .counters))
