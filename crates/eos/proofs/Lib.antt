@@ -4,3 +4,5 @@ pub mod Energy
 pub mod Evaluations
 pub mod Rows2
 pub mod Chain
+pub mod Roots
+pub mod One

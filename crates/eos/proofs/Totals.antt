@@ -8,7 +8,7 @@ use mathlib.Core.Logic.{⊎-elim}
 use mathlib.Core.List.{List, []}
 use lib.ListN.{length, set}
 use lib.Seq.{getD-set-same, getD-set-other}
-use lib.Ieee.{Float}
+use lib.Ieee.{Float, nan}
 use Rattle.float.specs.Ops.{f0}
 use Rattle.jet.specs.declared.Jet.{Jet}
 use Rattle.jet.specs.Coefficients.{Upto, numberOf}
@@ -17,7 +17,7 @@ use Rattle.jet.proofs.Prefix.{add-upto}
 use Rattle.jet.proofs.Depends.{product-first}
 use Rattle.eos.specs.Indices.{jetTotal}
 use Rattle.eos.specs.Jets.{jetAt}
-use Rattle.eos.specs.Cubic.{mixTerm, mixRow, akMix, bMix}
+use Rattle.eos.specs.Cubic.{nth, mixTerm, mixRow, akMix, bMix}
 use Rattle.eos.proofs.Folds.{Keeps, fold-cong, fold-keeps}
 use Rattle.eos.proofs.Chain.{mixTerm-cong}
 
@@ -32,7 +32,14 @@ total-cong w n f g h e =
     fold-cong w (λ s i. s ⊞ f i) (λ s i. s ⊞ g i) (n - 1) 1
     (λ j s t l m d. add-upto w s t (s ⊞ f j) d (f j) (g j) (e j (omega arith)) refl) (f 0) (g 0) (e 0 h)
 
--- ---- arrays of jets, filled one after the other
+-- ---- arrays, filled one after the other
+
+pub set-turn : (P : ℕ → Float → Type 0) (out : List Float) (i : ℕ) (r : Float) → i < length out → ((k : ℕ) → k < i → P k (nth out k)) → P i r → (k : ℕ) → k < i + 1 → P k (nth (set out i r) k)
+set-turn P out i r h e p k l =
+    ⊎-elim
+    (λ (q : k ≡ i). subst (λ (z : ℕ). P z (nth (set out i r) z)) (sym q) (subst (P i) (sym (getD-set-same out i r nan h)) p))
+    (λ (q : k < i). subst (P k) (sym (getD-set-other out i k r nan (λ d. omega arith))) (e k q))
+    (eq-or-lt-of-le (le-of-suc-le-suc (rw add-one at l)))
 
 pub put-turn : (P : ℕ → List Float → Type 0) (out : List Jet) (i : ℕ) (r : Jet) → i < length out → ((k : ℕ) → k < i → P k (jetAt out k)) → P i (r .c) → (k : ℕ) → k < i + 1 → P k (jetAt (set out i r) k)
 put-turn P out i r h e p k l =

@@ -1,10 +1,16 @@
 -- An array of jets. Definitions only.
-use Prim.Native.Nat.{ℕ}
+use Prim.Native.Nat.{ℕ, _+_, _*_}
+use mathlib.Core.Bool.{cond}
 use mathlib.Core.List.{List, []}
 use lib.ListN.{getD}
+use lib.Dec.{leb}
 use lib.Ieee.{Float}
 use Rattle.jet.specs.declared.Jet.{Jet}
 
 -- the coefficients of the jet at index i
 abbrev pub jetAt : List Jet → ℕ → List Float
 jetAt a i = getD a i (record { c = [] }) .c
+
+-- where the unordered pair of the indices i and j stands in a table of 8 rows: in the row of the larger one
+unfoldable pub placeOf : ℕ → ℕ → ℕ
+placeOf i j = cond (leb j i) (8 * i + j) (8 * j + i)

@@ -2,35 +2,45 @@
 // They read positions 0, 4 and 8 of derivatives by e0, the highest of which comes from position 8 + 3. So twelve positions
 // of the energy are enough, and nine of its derivatives.
 ghost use mathlib.Core.Path.{_≡_};
-ghost use Rattle.jet.specs.Coefficients.{Upto};
+ghost use Rattle.jet.specs.Coefficients.{Upto, markedOf, recipOf};
 ghost use Rattle.eos.specs.Critical.{energyOverT, dmuDn, eigenvalue as eigenvalueOf, moved as movedOf, idealGas, thirdDerivative, criticalityConditions, stabilityCondition};
-use crate::residual::helmholtz;
+use crate::helmholtz_12::helmholtz;
 use crate::types::Blend;
 use crate::types::Criticality;
 use crate::types::Stability;
 use jet::Jet;
 
+// The molar volume, with its density marked.
+fn volume(density: f64) -> Jet
+    ensures { λ r. ⌜ Upto 12 (r .c) (recipOf (markedOf 8 density)) ⌝ }
+{
+    jet::div_12(jet::number(1.0), jet::marked(8, density))
+}
+
 fn energy_over_t(blend: Blend, t: Jet, v: Jet, n: Jet) -> Jet
     ensures { λ r. ⌜ Upto 12 (r .c) (energyOverT blend (t .c) (v .c) (n .c)) ⌝ }
 {
     let moles = [n; 8];
-    let a = helmholtz(12, 1, blend, t, v, moles);
-    jet::div_to(12, a, t)
+    let a = helmholtz(1, blend, t, v, moles);
+    jet::div_12(a, t)
 }
 
-fn dmu_dn(blend: Blend, t: Jet, v: Jet, z: f64) -> Jet
+// e is the energy over t with the mole number marked, here and below.
+fn dmu_dn(blend: Blend, t: Jet, v: Jet, z: f64, e: Jet) -> Jet
+    requires { ⌜ Upto 12 (e .c) (energyOverT blend (t .c) (v .c) (markedOf 1 z)) ⌝ }
     ensures { λ r. ⌜ Upto 9 (r .c) (dmuDn blend (t .c) (v .c) z) ⌝ }
 {
-    jet::derivative(2, energy_over_t(blend, t, v, jet::marked(1, z)))
+    jet::derivative(2, e)
 }
 
 // The smallest eigenvalue of M, which is M itself for one component.
-fn eigenvalue(blend: Blend, t: Jet, v: Jet, z: f64) -> Jet
+fn eigenvalue(blend: Blend, t: Jet, v: Jet, z: f64, e: Jet) -> Jet
+    requires { ⌜ Upto 12 (e .c) (energyOverT blend (t .c) (v .c) (markedOf 1 z)) ⌝ }
     ensures { λ r. ⌜ Upto 9 (r .c) (eigenvalueOf blend (t .c) (v .c) z) ⌝ }
 {
-    let sqrt_z = jet::sqrt_to(9, jet::number(z));
-    let z_mix = jet::mul_to(9, sqrt_z, sqrt_z);
-    let m = jet::mul_to(9, dmu_dn(blend, t, v, z), z_mix);
+    let sqrt_z = jet::sqrt_12(jet::number(z));
+    let z_mix = jet::mul_12(sqrt_z, sqrt_z);
+    let m = jet::mul_12(dmu_dn(blend, t, v, z, e), z_mix);
     jet::add(m, jet::number(1.0))
 }
 
@@ -38,6 +48,9 @@ fn eigenvalue(blend: Blend, t: Jet, v: Jet, z: f64) -> Jet
 fn moved(z: f64) -> Jet
     ensures { λ r. ⌜ r .c ≡ movedOf z ⌝ }
 {
+    if float::to_bits(z) == 0x3ff0_0000_0000_0000 {
+        return jet::marked(1, z);
+    }
     let n = jet::number(z);
     let u = jet::mul(jet::sqrt(n), jet::number(1.0));
     jet::add(n, jet::mul(u, jet::marked(1, 0.0)))
@@ -48,17 +61,29 @@ fn ideal_gas(n: Jet, v: Jet) -> Jet
 {
     let c = n.c;
     if c[0] == 0.0 {
-        return jet::mul_to(12, n, jet::number(0.0));
+        return jet::mul_12(n, jet::number(0.0));
     }
-    let l = jet::ln_to(12, jet::div_to(12, n, v));
-    jet::mul_to(12, n, jet::sub(l, jet::number(1.0)))
+    let l = jet::ln_12(jet::div_12(n, v));
+    jet::mul_12(n, jet::sub(l, jet::number(1.0)))
 }
 
-fn third_derivative(blend: Blend, t: Jet, v: Jet, z: f64) -> Jet
+// The energy at the moved mole number n. A mole number of 1 moves by its own mark, and e is this energy too.
+fn moved_energy(blend: Blend, t: Jet, v: Jet, z: f64, n: Jet, e: Jet) -> Jet
+    requires { ⌜ (n .c ≡ movedOf z) × Upto 12 (e .c) (energyOverT blend (t .c) (v .c) (markedOf 1 z)) ⌝ }
+    ensures { λ r. ⌜ Upto 12 (r .c) (energyOverT blend (t .c) (v .c) (n .c)) ⌝ }
+{
+    if float::to_bits(z) == 0x3ff0_0000_0000_0000 {
+        return e;
+    }
+    energy_over_t(blend, t, v, n)
+}
+
+fn third_derivative(blend: Blend, t: Jet, v: Jet, z: f64, e: Jet) -> Jet
+    requires { ⌜ Upto 12 (e .c) (energyOverT blend (t .c) (v .c) (markedOf 1 z)) ⌝ }
     ensures { λ r. ⌜ Upto 9 (r .c) (thirdDerivative blend (t .c) (v .c) z) ⌝ }
 {
     let n = moved(z);
-    let a = energy_over_t(blend, t, v, n);
+    let a = moved_energy(blend, t, v, z, n, e);
     jet::derivative(3, jet::add(a, ideal_gas(n, v)))
 }
 
@@ -66,10 +91,12 @@ pub fn criticality_conditions(blend: Blend, temperature: f64, density: f64) -> C
     ensures { λ r. ⌜ r ≡ criticalityConditions blend temperature density ⌝ }
 {
     let t = jet::marked(4, temperature);
-    let v = jet::recip(jet::marked(8, density));
+    let v = volume(density);
     let x = blend.x;
-    let l = eigenvalue(blend, t, v, x[0]);
-    let c = third_derivative(blend, t, v, x[0]);
+    let z = x[0];
+    let e = energy_over_t(blend, t, v, jet::marked(1, z));
+    let l = eigenvalue(blend, t, v, z, e);
+    let c = third_derivative(blend, t, v, z, e);
     let f = l.c;
     let g = c.c;
     Criticality {
@@ -85,9 +112,12 @@ pub fn criticality_conditions(blend: Blend, temperature: f64, density: f64) -> C
 pub fn stability_condition(blend: Blend, temperature: f64, density: f64) -> Stability
     ensures { λ r. ⌜ r ≡ stabilityCondition blend temperature density ⌝ }
 {
-    let v = jet::recip(jet::marked(8, density));
+    let v = volume(density);
     let x = blend.x;
-    let l = eigenvalue(blend, jet::number(temperature), v, x[0]);
+    let z = x[0];
+    let t = jet::number(temperature);
+    let e = energy_over_t(blend, t, v, jet::marked(1, z));
+    let l = eigenvalue(blend, t, v, z, e);
     let f = l.c;
     Stability { f: f[0], df: f[8] }
 }

@@ -1,19 +1,13 @@
-// cubic.rs: the parameters of a blend, its maximum density, and its Helmholtz energy on jets. Where a function takes
-// `w`, only the coefficients at positions below w are worked out.
+// cubic.rs: the parameters of a blend and its maximum density. helmholtz_4.rt and helmholtz_12.rt have its energy on jets.
 ghost use mathlib.Core.Path.{_≡_};
-ghost use Prim.Native.Nat.{ℕ, _+_, _*_, _≤_, _<_};
+ghost use Prim.Native.Nat.{_≤_, _<_};
 ghost use Rattle.float.specs.Ops.{_⊗_};
-ghost use Rattle.jet.specs.Coefficients.{Upto};
 ghost use Rattle.eos.specs.Indices.{total};
-ghost use Rattle.eos.specs.Jets.{jetAt};
-ghost use Rattle.eos.specs.Cubic.{nth, elementOf, componentOf, componentsOf, pureOf, maxDensity, akOf, mixTerm, mixRow, akMix, bMix, repulsion, logRatio, attraction, contribution};
+ghost use Rattle.eos.specs.Cubic.{nth, elementOf, componentOf, componentsOf, pureOf, maxDensity};
 use crate::types::Blend;
 use crate::types::Component;
-use jet::Jet;
 
 const KB_A3: f64 = 13806490.0;
-
-const SQRT_2: f64 = 1.4142135623730951;
 
 // `PengRobinson::new`, for one component.
 pub fn component(tc: f64, pc: f64, acentric_factor: f64) -> Component
@@ -97,117 +91,4 @@ pub fn compute_max_density(blend: Blend) -> f64
     let x = blend.x;
     let b = blend.b;
     0.9 / dot(n, &x, &b)
-}
-
-// ak of a component at the temperature t.
-fn ak(w: usize, t: Jet, tc: f64, kappa: f64, a: f64) -> Jet
-    ensures { λ r. ⌜ Upto w (r .c) (akOf (t .c) tc kappa a) ⌝ }
-{
-    let one = jet::number(1.0);
-    let q = jet::div_to(w, t, jet::number(tc));
-    let d = jet::sub(one, jet::sqrt_to(w, q));
-    let y = jet::add(jet::mul_to(w, d, jet::number(kappa)), one);
-    jet::mul_to(w, jet::mul_to(w, y, y), jet::number(a))
-}
-
-// ak of the first n components.
-pub fn aks(w: usize, n: usize, blend: Blend, t: Jet) -> [Jet; 8]
-    requires { ⌜ n ≤ 8 ⌝ }
-    ensures { λ r. ⌜ ((i : ℕ) → i < n → Upto w (jetAt r i) (akOf (t .c) (nth (blend .tc) i) (nth (blend .kappa) i) (nth (blend .a) i))) ⌝ }
-{
-    let tc = blend.tc;
-    let kappa = blend.kappa;
-    let a = blend.a;
-    let zero = jet::number(0.0);
-    let mut out = [zero; 8];
-    let mut i: usize = 0;
-    while i < n {
-        out[i] = ak(w, t, tc[i], kappa[i], a[i]);
-        i += 1;
-    }
-    out
-}
-
-// The term of ak_mix for the components i and j, with their interaction k.
-fn mix_term(w: usize, ai: Jet, aj: Jet, xi: Jet, xj: Jet, k: f64) -> Jet
-    ensures { λ r. ⌜ Upto w (r .c) (mixTerm (ai .c) (aj .c) (xi .c) (xj .c) k) ⌝ }
-{
-    let root = jet::sqrt_to(w, jet::mul_to(w, ai, aj));
-    let x = jet::mul_to(w, xi, xj);
-    jet::mul_to(w, root, jet::mul_to(w, x, jet::number(1.0 - k)))
-}
-
-// The terms of row i, added to s.
-fn mix_row(w: usize, n: usize, i: usize, s: Jet, ak: [Jet; 8], x: [Jet; 8], k: &[f64; 64]) -> Jet
-    requires { ⌜ (i < 8) × (n ≤ 8) ⌝ }
-    ensures { λ r. ⌜ Upto w (r .c) (mixRow n (jetAt ak) (jetAt x) (λ i j. nth (now (k .entry)) (8 * i + j)) i (s .c)) ⌝ }
-{
-    let ai = ak[i];
-    let xi = x[i];
-    let mut m = s;
-    let mut j: usize = 0;
-    while j < n {
-        m = jet::add(m, mix_term(w, ai, ak[j], xi, x[j], k[8 * i + j]));
-        j += 1;
-    }
-    m
-}
-
-// ak_mix, from zero, over j within i.
-pub fn ak_mix(w: usize, n: usize, ak: [Jet; 8], x: [Jet; 8], k: &[f64; 64]) -> Jet
-    requires { ⌜ n ≤ 8 ⌝ }
-    ensures { λ r. ⌜ Upto w (r .c) (akMix n (jetAt ak) (jetAt x) (λ i j. nth (now (k .entry)) (8 * i + j))) ⌝ }
-{
-    let mut m = jet::number(0.0);
-    let mut i: usize = 0;
-    while i < n {
-        m = mix_row(w, n, i, m, ak, x, k);
-        i += 1;
-    }
-    m
-}
-
-// The sum of the fractions times b, from the first term.
-pub fn b_mix(w: usize, n: usize, x: [Jet; 8], b: &[f64; 8]) -> Jet
-    requires { ⌜ (1 ≤ n) × (n ≤ 8) ⌝ }
-    ensures { λ r. ⌜ Upto w (r .c) (bMix n (jetAt x) (nth (now (b .entry)))) ⌝ }
-{
-    let mut m = jet::mul_to(w, x[0], jet::number(b[0]));
-    let mut i: usize = 1;
-    while i < n {
-        m = jet::add(m, jet::mul_to(w, x[i], jet::number(b[i])));
-        i += 1;
-    }
-    m
-}
-
-fn repulsive(w: usize, v: Jet, b: Jet) -> Jet
-    ensures { λ r. ⌜ Upto w (r .c) (repulsion (v .c) (b .c)) ⌝ }
-{
-    jet::ln_to(w, jet::div_to(w, v, jet::sub(v, b)))
-}
-
-fn log_ratio(w: usize, v: Jet, b: Jet) -> Jet
-    ensures { λ r. ⌜ Upto w (r .c) (logRatio (v .c) (b .c)) ⌝ }
-{
-    let upper = jet::add(v, jet::mul_to(w, b, jet::number(1.0 + SQRT_2)));
-    let lower = jet::add(v, jet::mul_to(w, b, jet::number(1.0 - SQRT_2)));
-    jet::ln_to(w, jet::div_to(w, upper, lower))
-}
-
-fn attractive(w: usize, ak: Jet, b: Jet, t: Jet, v: Jet) -> Jet
-    ensures { λ r. ⌜ Upto w (r .c) (attraction (ak .c) (b .c) (t .c) (v .c)) ⌝ }
-{
-    let b2 = jet::mul_to(w, jet::mul_to(w, b, jet::number(SQRT_2)), jet::number(2.0));
-    let q = jet::div_to(w, ak, jet::mul_to(w, b2, t));
-    jet::mul_to(w, q, log_ratio(w, v, b))
-}
-
-// The reduced Helmholtz energy density of `for_each_contribution`.
-pub fn contribute(w: usize, density: Jet, ak: Jet, b: Jet, t: Jet) -> Jet
-    ensures { λ r. ⌜ Upto w (r .c) (contribution (density .c) (ak .c) (b .c) (t .c)) ⌝ }
-{
-    let v = jet::div_to(w, jet::number(1.0), density);
-    let d = jet::sub(repulsive(w, v, b), attractive(w, ak, b, t, v));
-    jet::mul_to(w, density, d)
 }

@@ -1,7 +1,10 @@
 // The equation of state of Peng and Robinson: blends, the Helmholtz energy on jets, and the five evaluations.
 mod critical_point;
 mod cubic;
+mod helmholtz_12;
+mod helmholtz_4;
 mod linear;
+mod mixture;
 mod residual;
 mod types;
 

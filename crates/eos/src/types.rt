@@ -1,4 +1,5 @@
 // What a blend is, and what the evaluations yield. All by value.
+use jet::Jet;
 
 // The parameters of one component: critical temperature, a, b and kappa.
 pub struct Component {
@@ -17,6 +18,13 @@ pub struct Blend {
     pub kappa: [f64; 8],
     pub k_ij: [f64; 64],
     pub x: [f64; 8],
+}
+
+// What the components of a blend make together: the density, and its a and b.
+pub struct Mixture {
+    pub density: Jet,
+    pub a: Jet,
+    pub b: Jet,
 }
 
 // Pressure, its slope and its curvature along the density.

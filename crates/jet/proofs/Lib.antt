@@ -9,4 +9,5 @@ pub mod Rows
 pub mod ByE0
 pub mod Depends
 pub mod Prefix
-pub mod Four
+pub mod UptoFour
+pub mod UptoTwelve

@@ -1,10 +1,13 @@
 -- The first n coefficients of what each function gives, from the first n of its operands. Assumes nothing.
-use mathlib.Core.Path.{_≡_, ap, _∙_}
-use Prim.Native.Nat.{ℕ}
+use mathlib.Core.Path.{_≡_, sym, ap, _∙_}
+use Prim.Native.Nat.{ℕ, _≤_}
 use mathlib.Core.List.{List}
 use lib.ListN.{take}
-use lib.Ieee.{Float}
-use Rattle.jet.specs.Coefficients.{Upto, cut, sumOf, differenceOf, productAt, productOf, quotientAt, quotientOf, rootAt, rootOf, logarithmAt, logarithmOf}
+use lib.Seq.{take-take, getD-take}
+use lib.Ieee.{Float, nan}
+use Rattle.float.specs.Ops.{_⊗_}
+use Rattle.jet.specs.Positions.{notAbove, among, pairsOf}
+use Rattle.jet.specs.Coefficients.{at, build, total, Upto, cut, sumOf, differenceOf, productAt, productOf, quotientAt, quotientOf, rootAt, rootOf, logarithmAt, logarithmOf}
 use Rattle.jet.proofs.Depends.{sum-first, difference-first, product-first, quotient-first, root-first, logarithm-first, take-cut}
 
 module _ (n : ℕ) (a a' r : List Float) (A : Upto n a a') where
@@ -30,3 +33,13 @@ module _ (n : ℕ) (a a' r : List Float) (A : Upto n a a') where
   pub ln-upto : r ≡ cut n (logarithmOf a) → Upto n r (logarithmOf a')
   unfolding logarithmOf
   ln-upto e = ap (take n) e ∙ take-cut n (logarithmAt a) ∙ logarithm-first n a a' A
+
+-- fewer coefficients
+pub fewer : (k n : ℕ) (a b : List Float) → k ≤ n → Upto n a b → Upto k a b
+fewer k n a b h e = sym (take-take k n a h) ∙ ap (take k) e ∙ take-take k n b h
+
+-- the first coefficient of a product
+pub product-head : (n : ℕ) (a b r : List Float) → 1 ≤ n → r ≡ cut n (productOf a b) → at r 0 ≡ at a 0 ⊗ at b 0
+unfolding productOf productAt total pairsOf among notAbove build
+product-head n a b r h e =
+    sym (getD-take n r 0 nan h) ∙ ap (λ (l : List Float). at l 0) (ap (take n) e ∙ take-cut n (productAt a b)) ∙ getD-take n (productOf a b) 0 nan h

@@ -6,8 +6,8 @@ ghost use mathlib.Core.List.{[]};
 ghost use Rattle.jet.specs.Positions.{positions};
 ghost use Rattle.jet.specs.Coefficients.{coefficientOf, numberOf, markedOf, sumOf, differenceOf, negationOf, productOf, quotientOf, recipOf, squareOf, factorialOf, derivativeAt, derivativeOf, cut};
 use crate::Jet;
-use crate::along::div_4;
-use crate::along::mul_4;
+use crate::four::div_4;
+use crate::four::mul_4;
 use crate::terms::minus;
 use crate::terms::plus;
 

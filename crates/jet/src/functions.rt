@@ -2,9 +2,9 @@
 ghost use mathlib.Core.Path.{_≡_};
 ghost use Rattle.jet.specs.Coefficients.{rootOf, logarithmOf, cut};
 use crate::Jet;
-use crate::along::ln_4;
-use crate::along::sqrt_4;
 use crate::arith::at_most;
+use crate::four::ln_4;
+use crate::four::sqrt_4;
 use crate::terms::minus;
 use crate::terms::weight;
 

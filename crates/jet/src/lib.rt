@@ -1,10 +1,11 @@
 // Jets: polynomials in the marks e0 (degree up to 3), e1 and e2 (up to 1), with document 01's rules for the
 // coefficients of a sum, product, quotient, root and logarithm. specs/Coefficients.antt has the rules.
-mod along;
 mod arith;
+mod four;
 mod functions;
 mod pairs;
 mod terms;
+mod twelve;
 
 pub use crate::arith::add;
 pub use crate::arith::coefficient;
@@ -19,10 +20,20 @@ pub use crate::arith::number;
 pub use crate::arith::recip;
 pub use crate::arith::square;
 pub use crate::arith::sub;
+pub use crate::four::div_4;
+pub use crate::four::ln_4;
+pub use crate::four::mul_4;
+pub use crate::four::sqrt_4;
+pub use crate::four::sqrt_4_from;
 pub use crate::functions::ln;
 pub use crate::functions::ln_to;
 pub use crate::functions::sqrt;
 pub use crate::functions::sqrt_to;
+pub use crate::twelve::div_12;
+pub use crate::twelve::ln_12;
+pub use crate::twelve::mul_12;
+pub use crate::twelve::sqrt_12;
+pub use crate::twelve::sqrt_12_from;
 
 // The coefficients, of e0^i e1^j e2^k at position i + 4j + 8k.
 pub struct Jet {

@@ -1,5 +1,5 @@
 -- What the code of a quarter does, over plain values: its tickets, its slots, its jobs and its turns. Assumes nothing.
-use mathlib.Core.Path.{_≡_, refl, sym, ap, _∙_}
+use mathlib.Core.Path.{_≡_, refl, sym, ap, _∙_, subst}
 use Prim.Native.Nat.{ℕ, suc, _+_, _-_, _*_, _%_, _^_, _≤_, _<_}
 use mathlib.Core.Bool.{Bool, true, false, cond, _&&_}
 use mathlib.Core.List.{List}
@@ -16,9 +16,10 @@ use Rattle.records.specs.Record.{recordBytes}
 use Rattle.schedule.specs.Spans.{spanOf}
 use Rattle.schedule.proofs.Tests.{left-true, right-true, span-within}
 use Rattle.solver_state.specs.declared.types.State.{State}
-use Rattle.stepping.specs.Stepping.{startOf, stateFits}
+use Rattle.stepping.specs.Stepping.{startOf, stepOf, stateFits, atEnd}
+use Rattle.stepping.proofs.Still.{still}
 use Rattle.stepping.specs.States.{outcomeAt}
-use Rattle.board_spec.specs.Layout.{acceptedAt, heldAt, turnsAt}
+use Rattle.board_spec.specs.Layout.{acceptedAt, heldAt, turnsAt, evaluationsAt}
 use Rattle.board_spec.specs.Quarter.{firstTicket, firstSlot, firstKind, firstJob, slotOf, slotFits, slotsFit, loadState, runningFits, quarterFits, putJob, submitQuarter, stateOf, steppedOf, keptQuarter, freedQuarter, turnQuarter}
 
 -- ---- the first job
@@ -169,3 +170,11 @@ module _ (queue : ℕ) (q buffer : List ℕ) where
       pub turn-on : (turns + 1 ≡ span → ⊥) → (q′ : List ℕ) → q′ ≡ keptQuarter q → Served 0 q′ buffer
       unfolding turnQuarter
       turn-on e q′ eq = rw (← eh, ne-eqb _ _ n, ← et, ← ek, ← es, ne-eqb _ _ e) (refl, eq, refl)
+
+-- at an end the stored state stays, whatever the block
+pub stepped-still : (q : List ℕ) (turns : ℕ) (s : State) (b : Bool) → turns ≡ u64At q turnsAt → (turns ≡ 0 → ⊥) → s ≡ loadState q → b ≡ atEnd (s .numbers .counters) → b ≡ true → s ≡ steppedOf q
+unfolding steppedOf loadState
+stepped-still q turns s b et n es eb e =
+    let l : u64At q evaluationsAt < 2 ^ 64 = numAt-lt 8 q evaluationsAt in
+    let h = subst (λ (x : State). x .evaluations < 2 ^ 64) (sym es) l in
+    sym (still (firstJob q) s (sym eb ∙ e) h) ∙ ap (stepOf (firstJob q)) (state-later q turns s et n es)

@@ -29,6 +29,12 @@ fn stepped(q: &[u8]) -> State
     requires { ⌜ length (now q) ≡ 6144 ⌝ }
     ensures { λ r. ⌜ r ≡ steppedOf (now (q .entry)) ⌝ }
 {
+    if buf::get_u64(q, 16) != 0 {
+        let stored = load_state(q);
+        if stepping::ended(stored) {
+            return stored;
+        }
+    }
     let job = first_job(q);
     let state = state_of(q, job);
     stepping::step(job, state)

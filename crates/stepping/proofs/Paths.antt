@@ -90,7 +90,7 @@ step-apart (CriticalPoint maxdensity temperature density) ev s = critical-apart 
 step-apart (StabilitySpinodals maxdensity t) ev s = spinodals-apart ev s maxdensity t _
 
 -- so the stored count is the count, where that is below 2^64
-step-counted : (job : Job) (ev : Evaluator) (s : State) → stepOf job ev s .evaluations < 2 ^ 64 → stepBy ev (Work.Search job) s ≡ stepOf job ev s
+pub step-counted : (job : Job) (ev : Evaluator) (s : State) → stepOf job ev s .evaluations < 2 ^ 64 → stepBy ev (Work.Search job) s ≡ stepOf job ev s
 unfolding stepBy
 step-counted job ev s h =
     let e = step-apart job ev s in

@@ -141,6 +141,15 @@ fn at_end(counters: Counters) -> bool
     counters.tag == 0
 }
 
+// Whether a state is an end, from which no step leads on.
+pub fn ended(state: State) -> bool
+    ensures { λ r. ⌜ r ≡ atEnd (state .numbers .counters) ⌝ }
+{
+    let numbers = state.numbers;
+    let counters = numbers.counters;
+    at_end(counters)
+}
+
 fn data_refusal(counters: Counters) -> bool
     ensures { λ r. ⌜ r ≡ dataRefusal counters ⌝ }
 {

@@ -6,6 +6,7 @@ mod types;
 pub use crate::answers::after;
 pub use crate::answers::answer;
 pub use crate::answers::outcome;
+pub use crate::jobs::ended;
 pub use crate::jobs::fits;
 pub use crate::jobs::result;
 pub use crate::jobs::start;

@@ -7,17 +7,17 @@ use Rattle.eos.proofs.critical_point.eigenvalue.Tie as tie
 number-requires : tie.Need-number-requires
 number-requires c κs = search needs
 
-sqrt-to-requires : tie.Need-sqrt-to-requires
-sqrt-to-requires c κs = search needs
+sqrt-12-requires : tie.Need-sqrt-12-requires
+sqrt-12-requires c κs = search needs
 
-mul-to-requires : tie.Need-mul-to-requires
-mul-to-requires c κs = search needs
+mul-12-requires : tie.Need-mul-12-requires
+mul-12-requires c κs = search needs
 
 dmu-dn-requires : tie.Need-dmu-dn-requires
 dmu-dn-requires c κs = search needs
 
-mul-to-requires-2 : tie.Need-mul-to-requires-2
-mul-to-requires-2 c κs = search needs
+mul-12-requires-2 : tie.Need-mul-12-requires-2
+mul-12-requires-2 c κs = search needs
 
 number-requires-2 : tie.Need-number-requires-2
 number-requires-2 c κs = search needs
@@ -28,17 +28,17 @@ add-requires c κs = search needs
 returns : tie.Need-returns
 returns c =
     let a = c .before .before .before .before .before .before .before .args in
-    eigenvalue-law (a .blend) (a .t .c) (a .v .c) (a .z) _ _ _ _ _ _ _ (c .before .before .before .before .before .before .number .ensures) (c .before .before .before .before .before .sqrt-to .ensures) (c .before .before .before .before .mul-to .ensures) (c .before .before .before .dmu-dn .ensures) (c .before .before .mul-to2 .ensures) (c .before .number2 .ensures) (c .add .ensures)
+    eigenvalue-law (a .blend) (a .t .c) (a .v .c) (a .z) _ _ _ _ _ _ _ (c .before .before .before .before .before .before .number .ensures) (c .before .before .before .before .before .sqrt-12 .ensures) (c .before .before .before .before .mul-12 .ensures) (c .before .before .before .dmu-dn .ensures) (c .before .before .mul-122 .ensures) (c .before .number2 .ensures) (c .add .ensures)
 
 pub eigenvalue-spec : {M : Type 1} → statement M
 eigenvalue-spec =
     tie.close
     (tie.spec
     number-requires
-    sqrt-to-requires
-    mul-to-requires
+    sqrt-12-requires
+    mul-12-requires
     dmu-dn-requires
-    mul-to-requires-2
+    mul-12-requires-2
     number-requires-2
     add-requires
     returns)

@@ -4,41 +4,45 @@ use borrow.Author.Needs.{needs}
 use Rattle.eos.proofs.critical_point.stability_condition.Statement.{statement}
 use Rattle.eos.proofs.critical_point.stability_condition.Tie as tie
 
-marked-requires : tie.Need-marked-requires
-marked-requires c κs = search needs
+volume-requires : tie.Need-volume-requires
+volume-requires c κs = search needs
 
-recip-requires : tie.Need-recip-requires
-recip-requires c κs = search needs
+array-read-z : tie.Need-array-read-z
+array-read-z c = search needs
 
 number-requires : tie.Need-number-requires
 number-requires c κs = search needs
 
-array-read-eigenvalue : tie.Need-array-read-eigenvalue
-array-read-eigenvalue c = search needs
+marked-requires : tie.Need-marked-requires
+marked-requires c κs = search needs
+
+energy-over-t-requires : tie.Need-energy-over-t-requires
+energy-over-t-requires c κs = search needs
 
 eigenvalue-requires : tie.Need-eigenvalue-requires
-eigenvalue-requires c κs = search needs
+eigenvalue-requires c κs = rw (← c .before .marked .ensures) (c .energy-over-t .ensures)
 
-array-read-t11 : tie.Need-array-read-t11
-array-read-t11 c = search needs
+array-read-t13 : tie.Need-array-read-t13
+array-read-t13 c = search needs
 
-array-read-t16 : tie.Need-array-read-t16
-array-read-t16 c = search needs
+array-read-t19 : tie.Need-array-read-t19
+array-read-t19 c = search needs
 
 returns : tie.Need-returns
 returns c =
-    let a = c .before .before .before .before .before .before .args in
-    stability-law (a .blend) (a .temperature) (a .density) _ _ _ (c .before .before .before .before .before .marked .ensures) (c .before .before .before .before .recip .ensures) (c .before .eigenvalue .result .c) (c .before .before .number .ensures) (c .before .eigenvalue .ensures)
+    let a = c .before .before .before .before .before .before .before .args in
+    stability-law (a .blend) (a .temperature) (a .density) _ _ (c .before .before .before .before .before .before .volume .ensures) (c .before .eigenvalue .result .c) (c .before .before .before .before .number .ensures) (c .before .eigenvalue .ensures)
 
 pub stability-condition-spec : {M : Type 1} → statement M
 stability-condition-spec =
     tie.close
     (tie.spec
-    marked-requires
-    recip-requires
+    volume-requires
+    array-read-z
     number-requires
-    array-read-eigenvalue
+    marked-requires
+    energy-over-t-requires
     eigenvalue-requires
-    array-read-t11
-    array-read-t16
+    array-read-t13
+    array-read-t19
     returns)

@@ -1,5 +1,7 @@
 -- `eos::residual::along_volume` meets its contract. Assumes nothing.
-use Rattle.eos.specs.Jets.{jetAt}
+use mathlib.Core.Path.{refl}
+use Rattle.jet.specs.Coefficients.{numberOf}
+use Rattle.eos.specs.Cubic.{nth}
 use Rattle.eos.proofs.Evaluations.{along-law}
 use borrow.Author.Needs.{needs}
 use Rattle.eos.proofs.residual.along_volume.Statement.{statement}
@@ -7,9 +9,6 @@ use Rattle.eos.proofs.residual.along_volume.Tie as tie
 
 components-requires : tie.Need-components-requires
 components-requires c κs = search needs
-
-numbers-requires : tie.Need-numbers-requires
-numbers-requires c κs = search needs
 
 number-requires : tie.Need-number-requires
 number-requires c κs = search needs
@@ -22,17 +21,11 @@ helmholtz-requires c κs = search needs
 
 returns : tie.Need-returns
 returns c =
-    let a = c .before .before .before .before .before .before .before .args in
-    let n = c .before .before .before .before .before .before .components in
-    along-law (a .blend) (a .t) (a .v) (n .result) (c .before .before .number .result .c) (c .before .marked .result .c) (jetAt (c .before .before .before .numbers .result)) (c .helmholtz .result .c) (n .ensures .1) (n .ensures .0) (c .before .before .number .ensures) (c .before .marked .ensures) (c .before .before .before .numbers .ensures) (c .helmholtz .ensures)
+    let a = c .before .before .before .before .args in
+    let n = c .before .before .before .components in
+    along-law (a .blend) (a .t) (a .v) (n .result) (c .before .before .number .result .c) (c .before .marked .result .c) (λ i. numberOf (nth (a .blend .x) i)) (c .helmholtz .result .c) (n .ensures .1) (n .ensures .0) (c .before .before .number .ensures) (c .before .marked .ensures) (λ i l. refl) (c .helmholtz .ensures)
 
 pub along-volume-spec : {M : Type 1} → statement M
 along-volume-spec =
     tie.close
-    (tie.spec
-    components-requires
-    numbers-requires
-    number-requires
-    marked-requires
-    helmholtz-requires
-    returns)
+    (tie.spec components-requires number-requires marked-requires helmholtz-requires returns)
