@@ -84,6 +84,19 @@ impl Clock {
     }
 }
 
+/// Runs something that many half kilobytes further down the stack. The place of its frames changes a call's time, and the
+/// system begins the stack elsewhere in every run of the program.
+#[inline(never)]
+pub fn deeper(steps: usize, run: &mut dyn FnMut()) {
+    let room = black_box([0u8; 512]);
+    if steps == 0 {
+        run();
+    } else {
+        deeper(steps - 1, run);
+    }
+    black_box(&room);
+}
+
 /// The upper one of two in the middle; sorts the numbers.
 pub fn median(numbers: &mut [f64]) -> f64 {
     numbers.sort_unstable_by(f64::total_cmp);

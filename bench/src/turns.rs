@@ -6,7 +6,7 @@
 use crate::blends::{Blend, Evaluation, Rows, EVALUATIONS};
 use crate::proved;
 use crate::requests::{self, jobs, Job};
-use crate::timing::{median, Clock};
+use crate::timing::{deeper, median, Clock};
 use oracle::block::check;
 use oracle::board::{self, get, put, span, Answer, BOARD, RECORD};
 use oracle::{evaluations, float, trace_request};
@@ -259,7 +259,8 @@ impl<'a> Cases<'a> {
     }
 }
 
-/// How often the table is gone through, so that the runs of a call do not all fall into the same busy moment.
+/// How often the table is gone through, so that the runs of a call do not all fall into the same busy moment or lie at the same
+/// place of the stack.
 const ROUNDS: usize = 8;
 /// Calls of a row in a round, shared out among its cases.
 const CALLS: usize = 5_000;
@@ -369,12 +370,12 @@ pub fn print() {
     let rows: Vec<(u8, usize)> = requests::rows().collect();
     let jobs: Vec<Vec<Job>> = rows.iter().map(|&(kind, n)| jobs(kind, n)).collect();
     let mut cases: Vec<Cases> = jobs.iter().map(|jobs| Cases::new(jobs)).collect();
-    for _ in 0..ROUNDS {
-        cases.iter_mut().for_each(|cases| cases.time(&clock));
+    for round in 0..ROUNDS {
+        deeper(round, &mut || cases.iter_mut().for_each(|cases| cases.time(&clock)));
     }
     let mut best = vec![[f64::INFINITY; 2]; rows.len()];
-    for _ in 0..PASSES {
-        best.iter_mut().zip(&jobs).for_each(|(best, jobs)| *best = faster(*best, jobs));
+    for round in 0..PASSES {
+        deeper(round, &mut || best.iter_mut().zip(&jobs).for_each(|(best, jobs)| *best = faster(*best, jobs)));
     }
     println!();
     println!(
