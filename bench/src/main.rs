@@ -1,15 +1,28 @@
 //! Times the proved code against what it is compared with, side by side in one run, and prints ratios.
-//! Each layer has a module with a function `rows`, whole jobs a table of their own; docs/BENCH.md holds the figures.
-//! usage: bench [floats] [jets] [evaluations] [jobs]      without a name, all
+//! Each layer has a module with a function `rows`, whole jobs and the board's calls tables of their own; docs/BENCH.md
+//! holds the figures. `bits` times nothing and compares random evaluations bit by bit.
+mod bits;
+mod blends;
 mod evaluations;
 mod floats;
 mod jets;
 mod jobs;
+// the board's calls with their answers in the oracle's form, as trials/ declares them
+#[path = "../../trials/src/proved.rs"]
+mod proved;
+mod requests;
 mod timing;
+mod turns;
 
-fn main() {
-    let names: Vec<String> = std::env::args().skip(1).collect();
-    let wanted = |name: &str| names.is_empty() || names.iter().any(|n| n == name);
+use std::process::ExitCode;
+
+const USAGE: &str = "\
+usage: bench [floats] [jets] [evaluations] [jobs] [turns]      without a name, all
+       bench bits COUNT SEED";
+
+const TABLES: [&str; 5] = ["floats", "jets", "evaluations", "jobs", "turns"];
+
+fn measure(wanted: impl Fn(&str) -> bool) {
     let layers: [(&str, fn() -> Vec<timing::Row>); 3] =
         [("floats", floats::rows), ("jets", jets::rows), ("evaluations", evaluations::rows)];
     if layers.iter().any(|(name, _)| wanted(name)) {
@@ -24,4 +37,23 @@ fn main() {
     if wanted("jobs") {
         jobs::print();
     }
+    if wanted("turns") {
+        turns::print();
+    }
+}
+
+fn main() -> ExitCode {
+    let words: Vec<String> = std::env::args().skip(1).collect();
+    let words: Vec<&str> = words.iter().map(String::as_str).collect();
+    if let ["bits", count, seed] = words[..] {
+        if let (Ok(count @ 1..), Ok(seed)) = (count.parse(), seed.parse()) {
+            return bits::run(count, seed);
+        }
+    }
+    if words.iter().all(|word| TABLES.contains(word)) {
+        measure(|name| words.is_empty() || words.contains(&name));
+        return ExitCode::SUCCESS;
+    }
+    eprintln!("{USAGE}");
+    ExitCode::from(2)
 }

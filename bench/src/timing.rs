@@ -1,4 +1,6 @@
-//! Rows of the table, and how one is timed: the two sides in turn, the best of several runs of each.
+//! Rows of the table, and how one is timed: the two sides in turn, the best of several runs of each. A clock for single calls.
+use std::arch::x86_64::{_mm_lfence, _mm_mfence, _rdtsc};
+use std::hint::black_box;
 use std::time::Instant;
 
 pub struct Row {
@@ -31,4 +33,72 @@ pub fn compare(what: &'static str, against: &'static str, count: usize, ours: &m
     }
     let unit = 1e9 / count as f64;
     Row { what, against, ours: a * unit, theirs: b * unit }
+}
+
+/// The processor's clock, for single calls. It is read between fences: what was begun before is done by then, and nothing
+/// after it has begun. An empty call is timed the same way, and its median is taken off every time.
+pub struct Clock {
+    ns_per_tick: f64,
+    empty: f64,
+}
+
+#[inline(always)]
+fn ticks() -> u64 {
+    unsafe {
+        _mm_lfence();
+        let now = _rdtsc();
+        _mm_lfence();
+        now
+    }
+}
+
+#[inline(always)]
+fn ticks_of<R>(call: impl FnOnce() -> R) -> (R, u64) {
+    // what is still on its way to memory is not the call's
+    unsafe { _mm_mfence() };
+    let start = ticks();
+    let result = call();
+    (result, ticks() - start)
+}
+
+/// Over 20 ms.
+fn ns_per_tick() -> f64 {
+    let (start, first) = (Instant::now(), ticks());
+    while start.elapsed().as_millis() < 20 {}
+    let (elapsed, last) = (start.elapsed(), ticks());
+    elapsed.as_secs_f64() * 1e9 / (last - first) as f64
+}
+
+impl Clock {
+    pub fn new() -> Self {
+        let mut ns: Vec<f64> = (0..5).map(|_| ns_per_tick()).collect();
+        let mut empty: Vec<f64> = (0..10_001).map(|_| ticks_of(|| black_box(())).1 as f64).collect();
+        Clock { ns_per_tick: median(&mut ns), empty: median(&mut empty) }
+    }
+
+    /// What the call gives, and its nanoseconds.
+    #[inline(always)]
+    pub fn time<R>(&self, call: impl FnOnce() -> R) -> (R, f64) {
+        let (result, ticks) = ticks_of(call);
+        (result, (ticks as f64 - self.empty).max(0.0) * self.ns_per_tick)
+    }
+}
+
+/// Runs something that many half kilobytes further down the stack. The place of its frames changes a call's time, and the
+/// system begins the stack elsewhere in every run of the program.
+#[inline(never)]
+pub fn deeper(steps: usize, run: &mut dyn FnMut()) {
+    let room = black_box([0u8; 512]);
+    if steps == 0 {
+        run();
+    } else {
+        deeper(steps - 1, run);
+    }
+    black_box(&room);
+}
+
+/// The upper one of two in the middle; sorts the numbers.
+pub fn median(numbers: &mut [f64]) -> f64 {
+    numbers.sort_unstable_by(f64::total_cmp);
+    numbers[numbers.len() / 2]
 }

@@ -1,0 +1,98 @@
+//! The requests that jobs and turns are measured on: eight of each kind for N = 1, 2, 8, on one bottle.
+use oracle::block::lengths;
+use oracle::random::FLUIDS;
+use oracle::{PengRobinson, PengRobinsonRecord, BLOCK};
+
+/// What is in the bottle: the first N of these, by parts.
+const BOTTLE: [(&str, f64); 8] = [
+    ("propane", 50.0),
+    ("n-butane", 20.0),
+    ("isobutane", 12.0),
+    ("propylene", 8.0),
+    ("ethane", 4.0),
+    ("n-pentane", 3.0),
+    ("isopentane", 2.0),
+    ("ethylene", 1.0),
+];
+
+/// One bar in K per cubic angstrom, the unit of a request's pressure.
+const BAR: f64 = 1e5 / 13806490.0;
+
+struct Bottle {
+    records: Vec<PengRobinsonRecord>,
+    interactions: Vec<f64>,
+    fractions: Vec<f64>,
+    /// mean of the critical temperatures
+    tc: f64,
+    max_density: f64,
+}
+
+impl Bottle {
+    fn new(n: usize) -> Self {
+        let record = |name| {
+            let &(_, tc, pc, acentric_factor) = FLUIDS.iter().find(|fluid| fluid.0 == name).expect("a fluid of the oracle's");
+            PengRobinsonRecord { tc, pc, acentric_factor }
+        };
+        let parts = &BOTTLE[..n];
+        let sum: f64 = parts.iter().map(|part| part.1).sum();
+        let records: Vec<_> = parts.iter().map(|part| record(part.0)).collect();
+        let fractions: Vec<f64> = parts.iter().map(|part| part.1 / sum).collect();
+        let interactions: Vec<f64> = (0..n).flat_map(|i| (i + 1..n).map(move |j| 0.002 * (j - i) as f64)).collect();
+        let tc = records.iter().zip(&fractions).map(|(r, x)| r.tc * x).sum();
+        let max_density = PengRobinson::new(&records, &interactions).compute_max_density(&fractions);
+        Bottle { records, interactions, fractions, tc, max_density }
+    }
+
+    /// The parts one after the other from byte 16, as the oracle's generator packs them.
+    fn block(&self, choice: u64, conditions: [f64; 3]) -> [u8; BLOCK] {
+        let floats = self.records.iter().flat_map(|r| [r.tc, r.pc, r.acentric_factor]);
+        let floats = floats.chain(self.interactions.iter().copied()).chain(self.fractions.iter().copied());
+        let words = floats.map(f64::to_bits).chain([choice]).chain(conditions.map(f64::to_bits));
+        let mut block = [0; BLOCK];
+        let mut at = 16;
+        for (i, length) in lengths(self.records.len()).into_iter().enumerate() {
+            block[4 * i..4 * i + 2].copy_from_slice(&(at as u16).to_le_bytes());
+            block[4 * i + 2..4 * i + 4].copy_from_slice(&(length as u16).to_le_bytes());
+            at += length;
+        }
+        for (i, word) in words.enumerate() {
+            block[16 + 8 * i..24 + 8 * i].copy_from_slice(&word.to_le_bytes());
+        }
+        block
+    }
+}
+
+pub struct Job {
+    pub kind: u8,
+    pub n: u8,
+    pub block: [u8; BLOCK],
+}
+
+/// Eight jobs of a kind, from cold and nearly empty to warm and full.
+pub fn jobs(kind: u8, n: usize) -> Vec<Job> {
+    let bottle = Bottle::new(n);
+    let job = |i: usize| {
+        let warmth = 0.65 + 0.04 * i as f64;
+        let t = bottle.tc * warmth;
+        let p = BAR * [1.0, 2.0, 4.0, 6.0, 8.0, 10.0, 15.0, 20.0][i];
+        let start = bottle.max_density * (0.1 + 0.1 * i as f64);
+        let component = i % n;
+        let block = match kind {
+            // vapour, liquid, from a start
+            1 => bottle.block(i as u64 % 3, [t, p, start]),
+            2 => bottle.block(0, [t, p, 0.0]),
+            3 => bottle.block(0, [t, 0.0, start]),
+            4 => bottle.block(i as u64 % 2, [t, 0.0, 0.0]),
+            // from no temperature and from one near the answer
+            5 => bottle.block(component as u64, [[0.0, 1.05 * bottle.records[component].tc][i % 2], 0.0, 0.0]),
+            _ => bottle.block(component as u64, [bottle.records[component].tc * warmth, 0.0, 0.0]),
+        };
+        Job { kind, n: n as u8, block }
+    };
+    (0..8).map(job).collect()
+}
+
+/// Kind and N of each row.
+pub fn rows() -> impl Iterator<Item = (u8, usize)> {
+    (1..=6).flat_map(|kind| [1, 2, 8].map(|n| (kind, n)))
+}
