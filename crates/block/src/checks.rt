@@ -1,4 +1,4 @@
-// The checks 12 to 16 of the supplier's data, each of one component, one fraction or the conditions.
+// The checks 12, 14, 15 and 16 of the supplier's data: one component, one fraction, the conditions, the choice.
 ghost use mathlib.Core.Path.{_≡_};
 ghost use Rattle.block.specs.Checks.{positive as positiveOf, plusZero, parametersFit, componentFits, fractionFits, temperatureFits, conditionsFit, choices as choicesOf, choiceFits};
 use crate::numbers::reads_fractions;
