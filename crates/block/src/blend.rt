@@ -1,114 +1,88 @@
-// The blend that a block's numbers describe.
+// The numbers of a blend, read from a block into zeroed arrays, each with its check: 12, 13 and 14.
 ghost use mathlib.Core.Path.{_≡_};
-ghost use Prim.Native.Nat.{_*_, _/_, _%_, _≤_, _<_};
+ghost use Prim.Native.Nat.{_+_, _-_, _*_, _/_, _%_, _≤_};
+ghost use mathlib.Core.Bool.{true};
+ghost use lib.ListN.{length, replicate};
+ghost use Rattle.float.specs.Ops.{f0};
 ghost use Rattle.block.specs.Lists.{tabulate};
-ghost use Rattle.block.specs.Blend.{at, componentAt, rowsBefore, place, interactionAt, blendOf, emptyBlend};
-use crate::types::Numbers;
+ghost use Rattle.block.specs.Numbers.{floatsAt, coefficientCount, interactionCount, fractionCount};
+ghost use Rattle.block.specs.Blend.{at as atRow, componentAt, interactionAt, emptyBlend};
+ghost use Rattle.block.specs.Checks.{componentsFit, interactionsFit, fractionsFit};
+use crate::checks::component_fits;
+use crate::checks::fraction_fits;
+use crate::numbers::fraction_count;
 use eos::Blend;
-use eos::Component;
 
-// Component i of n, or zeros.
-fn component_at(n: usize, row: [f64; 28], i: usize) -> Component
-    requires { ⌜ i < 8 ⌝ }
-    ensures { λ r. ⌜ r ≡ componentAt n row i ⌝ }
+pub fn read_components(
+    n: usize,
+    block: &[u8],
+    at: usize,
+    tc: &mut [f64; 8],
+    a: &mut [f64; 8],
+    b: &mut [f64; 8],
+    kappa: &mut [f64; 8],
+) -> bool
+    requires { ⌜ (n ≤ 8) × (at + 24 * n ≤ length (now block)) × (now tc ≡ replicate 8 f0) × (now a ≡ replicate 8 f0) × (now b ≡ replicate 8 f0) × (now kappa ≡ replicate 8 f0) ⌝ }
+    ensures { λ r. ⌜ (r ≡ componentsFit n (floatsAt (coefficientCount n) (now (block .entry)) at)) × (r ≡ true → (now (tc .exit) ≡ tabulate 8 (λ i. componentAt n (floatsAt (coefficientCount n) (now (block .entry)) at) i .tc)) × (now (a .exit) ≡ tabulate 8 (λ i. componentAt n (floatsAt (coefficientCount n) (now (block .entry)) at) i .a)) × (now (b .exit) ≡ tabulate 8 (λ i. componentAt n (floatsAt (coefficientCount n) (now (block .entry)) at) i .b)) × (now (kappa .exit) ≡ tabulate 8 (λ i. componentAt n (floatsAt (coefficientCount n) (now (block .entry)) at) i .kappa))) ⌝ }
 {
-    if i < n {
-        return eos::component(row[3 * i], row[3 * i + 1], row[3 * i + 2]);
-    }
-    Component {
-        tc: 0.0,
-        a: 0.0,
-        b: 0.0,
-        kappa: 0.0,
-    }
-}
-
-// How many interactions stand before row i.
-fn rows_before(n: usize, i: usize) -> usize
-    requires { ⌜ (n ≤ 8) × (i < n) ⌝ }
-    ensures { λ r. ⌜ r ≡ rowsBefore n i ⌝ }
-{
-    let mut before: usize = 0;
-    let mut k: usize = 0;
-    while k < i {
-        before += n - 1 - k;
-        k += 1;
-    }
-    before
-}
-
-// k_ij, for an i below j.
-fn interaction_above(n: usize, row: [f64; 28], i: usize, j: usize) -> f64
-    requires { ⌜ (n ≤ 8) × (i < j) × (j < n) ⌝ }
-    ensures { λ r. ⌜ r ≡ at row (place n i j) ⌝ }
-{
-    let place = rows_before(n, i) + (j - i - 1);
-    row[place]
-}
-
-fn interaction_at(n: usize, row: [f64; 28], i: usize, j: usize) -> f64
-    requires { ⌜ n ≤ 8 ⌝ }
-    ensures { λ r. ⌜ r ≡ interactionAt n row i j ⌝ }
-{
-    if i < j {
-        if j < n {
-            return interaction_above(n, row, i, j);
-        }
-        return 0.0;
-    }
-    if j < i {
-        if i < n {
-            return interaction_above(n, row, j, i);
-        }
-    }
-    0.0
-}
-
-fn interactions(n: usize, row: [f64; 28]) -> [f64; 64]
-    requires { ⌜ n ≤ 8 ⌝ }
-    ensures { λ r. ⌜ r ≡ tabulate 64 (λ q. interactionAt n row (q / 8) (q % 8)) ⌝ }
-{
-    let mut k_ij = [0.0; 64];
-    let mut q: usize = 0;
-    while q < 64 {
-        k_ij[q] = interaction_at(n, row, q / 8, q % 8);
-        q += 1;
-    }
-    k_ij
-}
-
-pub fn blend(n: usize, numbers: Numbers) -> Blend
-    requires { ⌜ n ≤ 8 ⌝ }
-    ensures { λ r. ⌜ r ≡ blendOf n numbers ⌝ }
-{
-    let coefficients = numbers.coefficients;
-    let fractions = numbers.fractions;
-    let mut tc = [0.0; 8];
-    let mut a = [0.0; 8];
-    let mut b = [0.0; 8];
-    let mut kappa = [0.0; 8];
-    let mut x = [0.0; 8];
     let mut i: usize = 0;
-    while i < 8 {
-        let c = component_at(n, coefficients, i);
+    while i < n {
+        let from = at + 24 * i;
+        let critical_temperature = buf::get_f64(block, from);
+        let critical_pressure = buf::get_f64(block, from + 8);
+        let acentric_factor = buf::get_f64(block, from + 16);
+        if !component_fits(critical_temperature, critical_pressure, acentric_factor) {
+            return false;
+        }
+        let c = eos::component(critical_temperature, critical_pressure, acentric_factor);
         tc[i] = c.tc;
         a[i] = c.a;
         b[i] = c.b;
         kappa[i] = c.kappa;
-        x[i] = fractions[i];
         i += 1;
     }
-    let row = numbers.interactions;
-    let k_ij = interactions(n, row);
-    Blend {
-        n,
-        tc,
-        a,
-        b,
-        kappa,
-        k_ij,
-        x,
+    true
+}
+
+// The interactions stand by rows, those with the j above i in row i.
+pub fn read_interactions(n: usize, block: &[u8], at: usize, k_ij: &mut [f64; 64]) -> bool
+    requires { ⌜ (1 ≤ n) × (n ≤ 8) × (at + 4 * (n * (n - 1)) ≤ length (now block)) × (now «k_ij» ≡ replicate 64 f0) ⌝ }
+    ensures { λ r. ⌜ (r ≡ interactionsFit n (floatsAt (interactionCount n) (now (block .entry)) at)) × (r ≡ true → now («k_ij» .exit) ≡ tabulate 64 (λ q. interactionAt n (floatsAt (interactionCount n) (now (block .entry)) at) (q / 8) (q % 8))) ⌝ }
+{
+    let mut place: usize = 0;
+    let mut i: usize = 0;
+    while i < n {
+        let mut j = i + 1;
+        while j < n {
+            let k = buf::get_f64(block, at + 8 * place);
+            if !float::is_finite(k) {
+                return false;
+            }
+            k_ij[8 * i + j] = k;
+            k_ij[8 * j + i] = k;
+            place += 1;
+            j += 1;
+        }
+        i += 1;
     }
+    true
+}
+
+pub fn read_fractions(kind: u64, n: usize, block: &[u8], at: usize, x: &mut [f64; 8]) -> bool
+    requires { ⌜ (n ≤ 8) × (at + 8 * n ≤ length (now block)) × (now x ≡ replicate 8 f0) ⌝ }
+    ensures { λ r. ⌜ (r ≡ fractionsFit n (floatsAt (fractionCount kind n) (now (block .entry)) at)) × (r ≡ true → now (x .exit) ≡ tabulate 8 (λ i. atRow (floatsAt (fractionCount kind n) (now (block .entry)) at) i)) ⌝ }
+{
+    let count = fraction_count(kind, n);
+    let mut i: usize = 0;
+    while i < count {
+        let fraction = buf::get_f64(block, at + 8 * i);
+        if !fraction_fits(fraction) {
+            return false;
+        }
+        x[i] = fraction;
+        i += 1;
+    }
+    true
 }
 
 pub fn empty() -> Blend

@@ -1,7 +1,6 @@
-// The checks 12 to 16 of the supplier's data.
+// The checks 12, 14, 15 and 16 of the supplier's data: one component, one fraction, the conditions, the choice.
 ghost use mathlib.Core.Path.{_≡_};
-ghost use Prim.Native.Nat.{_≤_};
-ghost use Rattle.block.specs.Checks.{positive as positiveOf, plusZero, parametersFit, componentFits, componentsFit, interactionsFit, fractionFits, fractionsFit, temperatureFits, conditionsFit, choices as choicesOf, choiceFits};
+ghost use Rattle.block.specs.Checks.{positive as positiveOf, plusZero, parametersFit, componentFits, fractionFits, temperatureFits, conditionsFit, choices as choicesOf, choiceFits};
 use crate::numbers::reads_fractions;
 use crate::numbers::zero_is_none;
 use crate::types::Conditions;
@@ -34,7 +33,7 @@ fn parameters_fit(c: Component) -> bool
     positive(c.b)
 }
 
-fn component_fits(tc: f64, pc: f64, acentric_factor: f64) -> bool
+pub fn component_fits(tc: f64, pc: f64, acentric_factor: f64) -> bool
     ensures { λ r. ⌜ r ≡ componentFits tc pc «acentric_factor» ⌝ }
 {
     if !positive(tc) {
@@ -49,56 +48,13 @@ fn component_fits(tc: f64, pc: f64, acentric_factor: f64) -> bool
     parameters_fit(eos::component(tc, pc, acentric_factor))
 }
 
-pub fn components_fit(n: usize, row: [f64; 28]) -> bool
-    requires { ⌜ n ≤ 8 ⌝ }
-    ensures { λ r. ⌜ r ≡ componentsFit n row ⌝ }
-{
-    let mut i: usize = 0;
-    while i < n {
-        if !component_fits(row[3 * i], row[3 * i + 1], row[3 * i + 2]) {
-            return false;
-        }
-        i += 1;
-    }
-    true
-}
-
-pub fn interactions_fit(n: usize, row: [f64; 28]) -> bool
-    requires { ⌜ (1 ≤ n) × (n ≤ 8) ⌝ }
-    ensures { λ r. ⌜ r ≡ interactionsFit n row ⌝ }
-{
-    let count = n * (n - 1) / 2;
-    let mut k: usize = 0;
-    while k < count {
-        if !float::is_finite(row[k]) {
-            return false;
-        }
-        k += 1;
-    }
-    true
-}
-
-fn fraction_fits(x: f64) -> bool
+pub fn fraction_fits(x: f64) -> bool
     ensures { λ r. ⌜ r ≡ fractionFits x ⌝ }
 {
     if float::is_finite(x) {
         return !float::is_negative(x);
     }
     false
-}
-
-pub fn fractions_fit(n: usize, row: [f64; 28]) -> bool
-    requires { ⌜ n ≤ 8 ⌝ }
-    ensures { λ r. ⌜ r ≡ fractionsFit n row ⌝ }
-{
-    let mut i: usize = 0;
-    while i < n {
-        if !fraction_fits(row[i]) {
-            return false;
-        }
-        i += 1;
-    }
-    true
 }
 
 fn temperature_fits(kind: u64, t: f64) -> bool

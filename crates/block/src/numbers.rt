@@ -1,40 +1,9 @@
-// The numbers that a job reads.
+// Which numbers a job reads, and the conditions.
 ghost use mathlib.Core.Path.{_≡_};
-ghost use Prim.Native.Nat.{_+_, _*_, _≤_, _<_};
-ghost use mathlib.Core.Bool.{true, cond};
+ghost use Prim.Native.Nat.{_+_, _≤_};
 ghost use lib.ListN.{length};
-ghost use lib.Dec.{ltb};
-ghost use Rattle.float.specs.Ops.{f0};
-ghost use Rattle.buf.specs.Bytes.{f64At};
-ghost use Rattle.block.specs.Pairs.{pairsFit};
-ghost use Rattle.block.specs.Numbers.{floatsAt, readsFractions, fractionCount, zeroIsNone, usesChoice, usesStart, choiceOf, pressureOf, startOf, conditionsOf, numbersOf};
-use crate::pairs::offset;
+ghost use Rattle.block.specs.Numbers.{readsFractions, fractionCount, zeroIsNone, usesChoice, usesStart, choiceOf, pressureOf, startOf, conditionsOf};
 use crate::types::Conditions;
-use crate::types::Numbers;
-
-// The i-th float from index at of those that are read, else +0.
-fn float_at(block: &[u8], at: usize, count: usize, i: usize) -> f64
-    requires { ⌜ at + 8 * count ≤ length (now block) ⌝ }
-    ensures { λ r. ⌜ r ≡ cond (ltb i count) (f64At (now (block .entry)) (at + 8 * i)) f0 ⌝ }
-{
-    if i < count {
-        return buf::get_f64(block, at + 8 * i);
-    }
-    0.0
-}
-
-fn floats(block: &[u8], at: usize, count: usize) -> [f64; 28]
-    requires { ⌜ at + 8 * count ≤ length (now block) ⌝ }
-    ensures { λ r. ⌜ r ≡ floatsAt count (now (block .entry)) at ⌝ }
-{
-    let mut row = [0.0; 28];
-    let mut i: usize = 0;
-    while i < 28 {
-        row[i] = float_at(block, at, count, i);
-        i += 1;
-    }
-    row
-}
 
 pub fn reads_fractions(kind: u64) -> bool
     ensures { λ r. ⌜ r ≡ readsFractions kind ⌝ }
@@ -42,7 +11,7 @@ pub fn reads_fractions(kind: u64) -> bool
     kind <= 4
 }
 
-fn fraction_count(kind: u64, n: usize) -> usize
+pub fn fraction_count(kind: u64, n: usize) -> usize
     ensures { λ r. ⌜ r ≡ fractionCount kind n ⌝ }
 {
     if reads_fractions(kind) {
@@ -111,7 +80,7 @@ fn start(kind: u64, choice: u64, block: &[u8], at: usize) -> f64
     0.0
 }
 
-fn conditions(kind: u64, block: &[u8], at: usize) -> Conditions
+pub fn conditions(kind: u64, block: &[u8], at: usize) -> Conditions
     requires { ⌜ at + 32 ≤ length (now block) ⌝ }
     ensures { λ r. ⌜ r ≡ conditionsOf kind (now (block .entry)) at ⌝ }
 {
@@ -122,21 +91,5 @@ fn conditions(kind: u64, block: &[u8], at: usize) -> Conditions
         temperature,
         pressure: pressure(kind, block, at),
         start: start(kind, chosen, block, at),
-    }
-}
-
-pub fn numbers(kind: u64, n: usize, block: &[u8]) -> Numbers
-    requires { ⌜ (1 ≤ n) × (n ≤ 8) × (length (now block) ≡ 640) × (pairsFit n (now block) ≡ true) ⌝ }
-    ensures { λ r. ⌜ r ≡ numbersOf kind n (now (block .entry)) ⌝ }
-{
-    let coefficients = floats(block, offset(block, 0), 3 * n);
-    let interactions = floats(block, offset(block, 1), n * (n - 1) / 2);
-    let fractions = floats(block, offset(block, 2), fraction_count(kind, n));
-    let conditions = conditions(kind, block, offset(block, 3));
-    Numbers {
-        coefficients,
-        interactions,
-        fractions,
-        conditions,
     }
 }

@@ -1,24 +1,27 @@
 // What a job reads of a request, or the refusal.
 ghost use mathlib.Core.Path.{_≡_};
 ghost use Prim.Native.Nat.{_≤_};
+ghost use mathlib.Core.Bool.{true, _&&_};
+ghost use lib.ListN.{length};
 ghost use Rattle.eos.specs.Cubic.{maxDensity};
-ghost use Rattle.block.specs.Checks.{positive as positiveOf};
+ghost use Rattle.block.specs.Pairs.{pairsFit};
+ghost use Rattle.block.specs.Numbers.{numbersOf};
+ghost use Rattle.block.specs.Checks.{positive as positiveOf, conditionsFit, choiceFits};
 ghost use Rattle.block.specs.View.{initialOf, branchOf, givenOf, taskOf, searched as searchedOf, refused as refusedOf, check, checked as checkedOf, view as viewOf};
-use crate::blend::blend;
 use crate::blend::empty;
+use crate::blend::read_components;
+use crate::blend::read_fractions;
+use crate::blend::read_interactions;
 use crate::checks::choice_fits;
-use crate::checks::components_fit;
 use crate::checks::conditions_fit;
-use crate::checks::fractions_fit;
-use crate::checks::interactions_fit;
 use crate::checks::is_plus_zero;
 use crate::checks::positive;
-use crate::numbers::numbers;
+use crate::numbers::conditions;
 use crate::numbers::reads_fractions;
+use crate::pairs::offset;
 use crate::pairs::pairs_fit;
 use crate::types::Conditions;
 use crate::types::Job;
-use crate::types::Numbers;
 use crate::types::Task;
 use eos::Blend;
 use solver::DensityInitialization;
@@ -105,33 +108,58 @@ fn ready(task: Task, blend: Blend) -> Job
     Job { task, blend }
 }
 
-fn checked(kind: u64, n: u64, d: Numbers) -> Job
-    requires { ⌜ (1 ≤ n) × (n ≤ 8) ⌝ }
-    ensures { λ r. ⌜ r ≡ checkedOf kind n d ⌝ }
+// The checks after those of the blend's own numbers.
+fn under_conditions(kind: u64, n: u64, c: Conditions, whole: Blend) -> Job
+    ensures { λ r. ⌜ r ≡ check (conditionsFit kind c) 15 (check (choiceFits kind n (c .choice) && positiveOf (maxDensity (searchedOf kind (c .choice) whole))) 16 (record { task = taskOf kind c; blend = searchedOf kind (c .choice) whole })) ⌝ }
 {
-    let size = n as usize;
-    let coefficients = d.coefficients;
-    if !components_fit(size, coefficients) {
-        return refused(12);
-    }
-    let interactions = d.interactions;
-    if !interactions_fit(size, interactions) {
-        return refused(13);
-    }
-    let fractions = d.fractions;
-    if !fractions_fit(size, fractions) {
-        return refused(14);
-    }
-    let conditions = d.conditions;
-    if !conditions_fit(kind, conditions) {
+    if !conditions_fit(kind, c) {
         return refused(15);
     }
-    let choice = conditions.choice;
+    let choice = c.choice;
     if !choice_fits(kind, n, choice) {
         return refused(16);
     }
-    let whole = blend(size, d);
-    ready(task(kind, conditions), searched(kind, choice, whole))
+    ready(task(kind, c), searched(kind, choice, whole))
+}
+
+fn checked(kind: u64, n: u64, block: &[u8]) -> Job
+    requires { ⌜ (1 ≤ n) × (n ≤ 8) × (length (now block) ≡ 640) × (pairsFit n (now block) ≡ true) ⌝ }
+    ensures { λ r. ⌜ r ≡ checkedOf kind n (numbersOf kind n (now (block .entry))) ⌝ }
+{
+    let size = n as usize;
+    let mut tc = [0.0; 8];
+    let mut a = [0.0; 8];
+    let mut b = [0.0; 8];
+    let mut kappa = [0.0; 8];
+    if !read_components(
+        size,
+        block,
+        offset(block, 0),
+        &mut tc,
+        &mut a,
+        &mut b,
+        &mut kappa,
+    ) {
+        return refused(12);
+    }
+    let mut k_ij = [0.0; 64];
+    if !read_interactions(size, block, offset(block, 1), &mut k_ij) {
+        return refused(13);
+    }
+    let mut x = [0.0; 8];
+    if !read_fractions(kind, size, block, offset(block, 2), &mut x) {
+        return refused(14);
+    }
+    let whole = Blend {
+        n: size,
+        tc,
+        a,
+        b,
+        kappa,
+        k_ij,
+        x,
+    };
+    under_conditions(kind, n, conditions(kind, block, offset(block, 3)), whole)
 }
 
 // The job of a request, for any kind, N and block.
@@ -150,5 +178,5 @@ pub fn view(kind: u64, n: u64, block: &[u8]) -> Job
     if !pairs_fit(n, block) {
         return refused(11);
     }
-    checked(kind, n, numbers(kind, n as usize, block))
+    checked(kind, n, block)
 }

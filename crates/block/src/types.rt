@@ -12,7 +12,8 @@ pub struct Conditions {
     pub start: f64,
 }
 
-// The numbers that a job reads: in each row as many as are read, then +0.
+// The numbers that a job reads: in each row as many as are read, then +0. The definitions speak of them; the code reads each
+// number to where the blend has it.
 pub struct Numbers {
     pub coefficients: [f64; 28],
     pub interactions: [f64; 28],

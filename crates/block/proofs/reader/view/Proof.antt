@@ -44,15 +44,12 @@ returns-4 : tie.Need-returns-4
 unfolding view
 returns-4 c = simp (sym (c .before .before .before .before .before .before .before .kind-fits .ensures) ∙ not-false _ (c .before .before .before .before .before .before .if1 .left), sym (c .before .before .before .before .before .count-fits .ensures) ∙ not-false _ (c .before .before .before .before .if2 .left), eq-eqb _ _ (c .before .before .before .if3 .left), sym (c .before .before .pairs-fit .ensures) ∙ not-true _ (c .before .if4 .taken), ← c .refused4 .ensures)
 
-numbers-requires : tie.Need-numbers-requires
-numbers-requires c κs = let w = count-within _ (sym (c .before .before .before .before .count-fits .ensures) ∙ not-false _ (c .before .before .before .if2 .left)) in (w .low, w .high, c .before .before .if3 .left, sym (c .before .pairs-fit .ensures) ∙ not-false _ (c .if4 .left))
-
 checked-requires : tie.Need-checked-requires
-checked-requires c κs = let w = count-within _ (sym (c .before .before .before .before .before .count-fits .ensures) ∙ not-false _ (c .before .before .before .before .if2 .left)) in (w .low, w .high)
+checked-requires c κs = let w = count-within _ (sym (c .before .before .before .before .count-fits .ensures) ∙ not-false _ (c .before .before .before .if2 .left)) in (w .low, w .high, c .before .before .if3 .left, sym (c .before .pairs-fit .ensures) ∙ not-false _ (c .if4 .left))
 
 returns-5 : tie.Need-returns-5
 unfolding view
-returns-5 c = simp (sym (c .before .before .before .before .before .before .before .before .kind-fits .ensures) ∙ not-false _ (c .before .before .before .before .before .before .before .if1 .left), sym (c .before .before .before .before .before .before .count-fits .ensures) ∙ not-false _ (c .before .before .before .before .before .if2 .left), eq-eqb _ _ (c .before .before .before .before .if3 .left), sym (c .before .before .before .pairs-fit .ensures) ∙ not-false _ (c .before .before .if4 .left), ← c .before .numbers .ensures, ← c .checked .ensures)
+returns-5 c = simp (sym (c .before .before .before .before .before .before .before .kind-fits .ensures) ∙ not-false _ (c .before .before .before .before .before .before .if1 .left), sym (c .before .before .before .before .before .count-fits .ensures) ∙ not-false _ (c .before .before .before .before .if2 .left), eq-eqb _ _ (c .before .before .before .if3 .left), sym (c .before .before .pairs-fit .ensures) ∙ not-false _ (c .before .if4 .left), ← c .checked .ensures)
 
 pub view-spec : {M : Type 1} → statement M
 view-spec =
@@ -69,6 +66,5 @@ view-spec =
     pairs-fit-requires
     refused-requires-4
     returns-4
-    numbers-requires
     checked-requires
     returns-5)
