@@ -1,9 +1,10 @@
 -- A mole number of one moves by its own mark. Assumes nothing.
 use mathlib.Core.Path.{_≡_, refl, sym, ap, _∙_}
 use mathlib.Core.List.{List}
-use Prim.Native.Nat.{ℕ}
-use lib.Dec.{T}
+use mathlib.Core.Bool.{Bool, true}
+use lib.Dec.{T, eqb}
 use lib.Ieee.{Float, binary64, fits, ofBits, toBits, add, mul, sub, div, round, fin}
+use borrow.Author.Tests.{eqb-true}
 use Rattle.float.specs.Ops.{_⊕_, _⊖_, _⊗_, _⊘_, f0, f1, f2}
 use Rattle.float.specs.Above.{above}
 use Rattle.float.specs.Root.{root, rootOf as floatRootOf, sticky, isqrt, isqrtIn}
@@ -26,7 +27,7 @@ unfolding moved markedOf sumOf numberOf productOf productAt total pairsOf among 
 one-moved = rw root-jet
 
 -- told by the bits
-pub moved-by-mark : (z : Float) (bits : ℕ) (n : List Float) → T (fits binary64 z) → bits ≡ toBits binary64 z → bits ≡ 0x3ff0_0000_0000_0000 → n ≡ moved z → markedOf 1 z ≡ n
-moved-by-mark z bits n f e g m =
-    let one : z ≡ f1 = sym (value-back z f) ∙ ap (ofBits binary64) (sym e ∙ g) in
+pub moved-by-mark : (z : Float) (t : Bool) (n : List Float) → T (fits binary64 z) → t ≡ eqb (toBits binary64 z) 0x3ff0_0000_0000_0000 → t ≡ true → n ≡ moved z → markedOf 1 z ≡ n
+moved-by-mark z t n f e g m =
+    let one : z ≡ f1 = sym (value-back z f) ∙ ap (ofBits binary64) (eqb-true (toBits binary64 z) 0x3ff0_0000_0000_0000 (sym e ∙ g)) in
     ap (markedOf 1) one ∙ sym one-moved ∙ ap moved (sym one) ∙ sym m

@@ -2,6 +2,8 @@
 // They read positions 0, 4 and 8 of derivatives by e0, the highest of which comes from position 8 + 3. So twelve positions
 // of the energy are enough, and nine of its derivatives.
 ghost use mathlib.Core.Path.{_≡_};
+ghost use lib.Dec.{eqb};
+ghost use lib.Ieee.{binary64, toBits};
 ghost use Rattle.jet.specs.Coefficients.{Upto, markedOf, recipOf};
 ghost use Rattle.eos.specs.Critical.{energyOverT, dmuDn, eigenvalue as eigenvalueOf, moved as movedOf, idealGas, thirdDerivative, criticalityConditions, stabilityCondition};
 use crate::helmholtz_12::helmholtz;
@@ -44,11 +46,18 @@ fn eigenvalue(blend: Blend, t: Jet, v: Jet, z: f64, e: Jet) -> Jet
     jet::add(m, jet::number(1.0))
 }
 
+// A mole number of 1, which moves by its own mark: the moved and the marked one are then the same jet.
+fn is_one(z: f64) -> bool
+    ensures { λ r. ⌜ r ≡ eqb (toBits binary64 z) 0x3ff0_0000_0000_0000 ⌝ }
+{
+    float::to_bits(z) == 0x3ff0_0000_0000_0000
+}
+
 // The mole number moved by s = 0 + e0 along the eigenvector 1.
 fn moved(z: f64) -> Jet
     ensures { λ r. ⌜ r .c ≡ movedOf z ⌝ }
 {
-    if float::to_bits(z) == 0x3ff0_0000_0000_0000 {
+    if is_one(z) {
         return jet::marked(1, z);
     }
     let n = jet::number(z);
@@ -67,12 +76,12 @@ fn ideal_gas(n: Jet, v: Jet) -> Jet
     jet::mul_12(n, jet::sub(l, jet::number(1.0)))
 }
 
-// The energy at the moved mole number n. A mole number of 1 moves by its own mark, and e is this energy too.
+// The energy at the moved mole number n, which is e where that is the marked one.
 fn moved_energy(blend: Blend, t: Jet, v: Jet, z: f64, n: Jet, e: Jet) -> Jet
     requires { ⌜ (n .c ≡ movedOf z) × Upto 12 (e .c) (energyOverT blend (t .c) (v .c) (markedOf 1 z)) ⌝ }
     ensures { λ r. ⌜ Upto 12 (r .c) (energyOverT blend (t .c) (v .c) (n .c)) ⌝ }
 {
-    if float::to_bits(z) == 0x3ff0_0000_0000_0000 {
+    if is_one(z) {
         return e;
     }
     energy_over_t(blend, t, v, n)

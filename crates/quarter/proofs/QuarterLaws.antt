@@ -1,12 +1,12 @@
 -- What the code of a quarter does, over plain values: its tickets, its slots, its jobs and its turns. Assumes nothing.
-use mathlib.Core.Path.{_≡_, refl, sym, ap, _∙_, subst}
+use mathlib.Core.Path.{_≡_, refl, sym, ap, _∙_}
 use Prim.Native.Nat.{ℕ, suc, _+_, _-_, _*_, _%_, _^_, _≤_, _<_}
-use mathlib.Core.Bool.{Bool, true, false, cond, _&&_}
+use mathlib.Core.Bool.{Bool, true, false, cond, not, _&&_}
 use mathlib.Core.List.{List}
 use native.Mathlib.Omega.{arith}
 use lib.ListN.{take, drop}
 use lib.Dec.{leb, ltb, eqb}
-use borrow.Author.Tests.{le-leb, lt-leb, lt-ltb, le-ltb, ltb-true, eq-eqb, ne-eqb, eqb-true}
+use borrow.Author.Tests.{le-leb, lt-leb, lt-ltb, le-ltb, ltb-true, eq-eqb, ne-eqb, eqb-true, eqb-false, not-true}
 use Rattle.buf.specs.Bytes.{splice, u64At, putU64}
 use Rattle.buf.proofs.Laws.{numAt-lt, lent-part}
 use Rattle.block.specs.declared.types.Job.{Job}
@@ -15,12 +15,13 @@ use Rattle.records.specs.declared.types.Outcome.{Outcome}
 use Rattle.records.specs.Record.{recordBytes}
 use Rattle.schedule.specs.Spans.{spanOf}
 use Rattle.schedule.proofs.Tests.{left-true, right-true, span-within}
+use Rattle.solver.specs.declared.types.Counters.{Counters}
 use Rattle.solver_state.specs.declared.types.State.{State}
-use Rattle.stepping.specs.Stepping.{startOf, stepOf, stateFits, atEnd}
+use Rattle.stepping.specs.Stepping.{startOf, stepOf, atEnd, countersFit, stateFits}
 use Rattle.stepping.proofs.Still.{still}
 use Rattle.stepping.specs.States.{outcomeAt}
 use Rattle.board_spec.specs.Layout.{acceptedAt, heldAt, turnsAt, evaluationsAt}
-use Rattle.board_spec.specs.Quarter.{firstTicket, firstSlot, firstKind, firstJob, slotOf, slotFits, slotsFit, loadState, runningFits, quarterFits, putJob, submitQuarter, stateOf, steppedOf, keptQuarter, freedQuarter, turnQuarter}
+use Rattle.board_spec.specs.Quarter.{firstTicket, firstSlot, firstKind, firstJob, slotOf, slotFits, slotsFit, loadCounters, loadState, runningFits, quarterFits, putJob, submitQuarter, stateOf, steppedOf, keptQuarter, freedQuarter, turnQuarter}
 
 -- ---- the first job
 
@@ -95,8 +96,9 @@ module _ (q : List ℕ) (held turns kind span : ℕ) (eh : held ≡ u64At q held
   pub running-late : span ≤ turns → false ≡ runningFits q
   running-late l = sym (running-by ∙ rw (le-ltb _ _ l))
 
-  pub running-state : (s : State) (r : Bool) → turns < span → s ≡ loadState q → r ≡ stateFits s → r ≡ runningFits q
-  running-state s r l e er = sym (running-by ∙ rw (lt-ltb _ _ l, ← e, ← er))
+  pub running-state : (c : Counters) (r : Bool) → turns < span → c ≡ loadCounters q → r ≡ countersFit c → r ≡ runningFits q
+  unfolding stateFits loadState
+  running-state c r l e er = sym (running-by ∙ rw (lt-ltb _ _ l, ← e, ← er))
 
 -- ---- the whole quarter
 
@@ -172,9 +174,10 @@ module _ (queue : ℕ) (q buffer : List ℕ) where
       turn-on e q′ eq = rw (← eh, ne-eqb _ _ n, ← et, ← ek, ← es, ne-eqb _ _ e) (refl, eq, refl)
 
 -- at an end the stored state stays, whatever the block
-pub stepped-still : (q : List ℕ) (turns : ℕ) (s : State) (b : Bool) → turns ≡ u64At q turnsAt → (turns ≡ 0 → ⊥) → s ≡ loadState q → b ≡ atEnd (s .numbers .counters) → b ≡ true → s ≡ steppedOf q
+pub stepped-still : (q : List ℕ) (t : Bool) (s : State) → t ≡ (not (eqb (u64At q turnsAt) 0) && atEnd (loadCounters q)) → t ≡ true → s ≡ loadState q → s ≡ steppedOf q
 unfolding steppedOf loadState
-stepped-still q turns s b et n es eb e =
-    let l : u64At q evaluationsAt < 2 ^ 64 = numAt-lt 8 q evaluationsAt in
-    let h = subst (λ (x : State). x .evaluations < 2 ^ 64) (sym es) l in
-    sym (still (firstJob q) s (sym eb ∙ e) h) ∙ ap (stepOf (firstJob q)) (state-later q turns s et n es)
+stepped-still q t s et e es =
+    let both = sym et ∙ e in
+    let later = not-true (eqb (u64At q turnsAt) 0) (left-true (not (eqb (u64At q turnsAt) 0)) (atEnd (loadCounters q)) both) in
+    let ended = right-true (not (eqb (u64At q turnsAt) 0)) (atEnd (loadCounters q)) both in
+    es ∙ sym (still (firstJob q) (loadState q) ended (numAt-lt 8 q evaluationsAt)) ∙ ap (stepOf (firstJob q)) (state-later q (u64At q turnsAt) (loadState q) refl (eqb-false (u64At q turnsAt) 0 later) refl)

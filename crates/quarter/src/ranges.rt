@@ -5,7 +5,7 @@ ghost use lib.ListN.{length};
 ghost use Rattle.board_spec.specs.Quarter.{slotFits, slotsFit, runningFits, quarterFits};
 use crate::jobs::first_kind;
 use crate::jobs::first_ticket;
-use crate::state::load_state;
+use crate::state::load_counters;
 
 fn slot_fits(q: &[u8], slot: usize) -> bool
     requires { ⌜ (length (now q) ≡ 6144) × (slot < 8) ⌝ }
@@ -45,7 +45,7 @@ fn running_fits(q: &[u8]) -> bool
     if schedule::span_of(first_kind(q)) <= turns {
         return false;
     }
-    stepping::fits(load_state(q))
+    stepping::counters_fit(load_counters(q))
 }
 
 pub fn quarter_fits(q: &[u8]) -> bool

@@ -7,7 +7,7 @@ use solver::Numbers;
 use solver::Values;
 use solver_state::State;
 
-fn load_counters(q: &[u8]) -> Counters
+pub fn load_counters(q: &[u8]) -> Counters
     requires { ⌜ length (now q) ≡ 6144 ⌝ }
     ensures { λ r. ⌜ r ≡ loadCounters (now (q .entry)) ⌝ }
 {

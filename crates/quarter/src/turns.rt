@@ -1,14 +1,17 @@
 // A turn of a queue: one evaluation of its first job, which leaves with its record on the last turn of its span.
 ghost use mathlib.Core.Path.{_≡_};
 ghost use Prim.Native.Nat.{_+_, _≤_, _<_, _^_};
-ghost use mathlib.Core.Bool.{true};
+ghost use mathlib.Core.Bool.{true, not, _&&_};
 ghost use lib.ListN.{length};
+ghost use lib.Dec.{eqb};
 ghost use Rattle.buf.specs.Bytes.{u64At};
 ghost use Rattle.board_spec.specs.Layout.{heldAt, turnsAt};
-ghost use Rattle.board_spec.specs.Quarter.{firstJob, quarterFits, stateOf, steppedOf, keptQuarter, freedQuarter, turnQuarter};
+ghost use Rattle.stepping.specs.Stepping.{atEnd};
+ghost use Rattle.board_spec.specs.Quarter.{firstJob, loadCounters, quarterFits, stateOf, steppedOf, keptQuarter, freedQuarter, turnQuarter};
 use crate::jobs::first_job;
 use crate::jobs::first_kind;
 use crate::jobs::first_ticket;
+use crate::state::load_counters;
 use crate::state::load_state;
 use crate::state::store_state;
 use block::Job;
@@ -29,15 +32,31 @@ fn stepped(q: &[u8]) -> State
     requires { ⌜ length (now q) ≡ 6144 ⌝ }
     ensures { λ r. ⌜ r ≡ steppedOf (now (q .entry)) ⌝ }
 {
-    if buf::get_u64(q, 16) != 0 {
-        let stored = load_state(q);
-        if stepping::ended(stored) {
-            return stored;
-        }
-    }
     let job = first_job(q);
     let state = state_of(q, job);
     stepping::step(job, state)
+}
+
+// Whether the first job has had a turn and its search has ended.
+fn finished(q: &[u8]) -> bool
+    requires { ⌜ length (now q) ≡ 6144 ⌝ }
+    ensures { λ r. ⌜ r ≡ (not (eqb (u64At (now (q .entry)) turnsAt) 0) && atEnd (loadCounters (now (q .entry)))) ⌝ }
+{
+    if buf::get_u64(q, 16) == 0 {
+        return false;
+    }
+    stepping::at_end(load_counters(q))
+}
+
+// The state that the first job is left in where it stays: once its search has ended the stored one, for which its block is not read.
+fn kept_state(q: &[u8]) -> State
+    requires { ⌜ length (now q) ≡ 6144 ⌝ }
+    ensures { λ r. ⌜ r ≡ steppedOf (now (q .entry)) ⌝ }
+{
+    if finished(q) {
+        return load_state(q);
+    }
+    stepped(q)
 }
 
 // The job stays, one turn further.
@@ -45,7 +64,7 @@ fn keep(q: &mut [u8])
     requires { ⌜ (length (now q) ≡ 6144) × (u64At (now q) turnsAt + 1 < 2 ^ 64) ⌝ }
     ensures { λ _. ⌜ now (q .exit) ≡ keptQuarter (now (q .entry)) ⌝ }
 {
-    let state = stepped(q);
+    let state = kept_state(q);
     let turns = buf::get_u64(q, 16);
     buf::put_u64(q, 16, turns + 1);
     store_state(q, state);

@@ -75,8 +75,11 @@ unfoldable pub dataRefusal : Counters → Bool
 dataRefusal c = atEnd c && (eqb (c .left) 0 && (eqb (c .way) 0 && (eqb (c .rounds) 0 && (leb 11 (c .status) && leb (c .status) 16))))
 
 -- the range of each counter: those of a search, or a data refusal's
+abbrev pub countersFit : Counters → Bool
+countersFit c = inRanges c || dataRefusal c
+
 unfoldable pub stateFits : State → Bool
-stateFits s = inRanges (s .numbers .counters) || dataRefusal (s .numbers .counters)
+stateFits s = countersFit (s .numbers .counters)
 
 -- status and floats of an end, as they are stored; where a state is no end, which no job of a fresh board leaves in its last turn, 22 and +0
 unfoldable pub resultOf : State → Ended

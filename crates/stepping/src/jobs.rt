@@ -1,7 +1,7 @@
 // A job of a request block: its first state, one evaluation further, the range of a stored state, and its end.
 ghost use mathlib.Core.Path.{_≡_};
 ghost use Rattle.solver.specs.Evaluated.{evaluated};
-ghost use Rattle.stepping.specs.Stepping.{workOf, refusedState, startBy, startOf, stepBy, stepOf, atEnd, dataRefusal, stateFits, resultOf};
+ghost use Rattle.stepping.specs.Stepping.{workOf, refusedState, startBy, startOf, stepBy, stepOf, atEnd, dataRefusal, countersFit, resultOf};
 use crate::types::Ended;
 use crate::types::Work;
 use block::Job;
@@ -132,22 +132,14 @@ pub fn step(job: Job, state: State) -> State
     step_by(blend, work(eos::compute_max_density(blend), task), state)
 }
 
-fn at_end(counters: Counters) -> bool
+// Whether a search has ended, so that no step leads on.
+pub fn at_end(counters: Counters) -> bool
     ensures { λ r. ⌜ r ≡ atEnd counters ⌝ }
 {
     if counters.stage != 0 {
         return false;
     }
     counters.tag == 0
-}
-
-// Whether a state is an end, from which no step leads on.
-pub fn ended(state: State) -> bool
-    ensures { λ r. ⌜ r ≡ atEnd (state .numbers .counters) ⌝ }
-{
-    let numbers = state.numbers;
-    let counters = numbers.counters;
-    at_end(counters)
 }
 
 fn data_refusal(counters: Counters) -> bool
@@ -171,12 +163,10 @@ fn data_refusal(counters: Counters) -> bool
     counters.status <= 16
 }
 
-// Whether a stored state's counters are in their ranges.
-pub fn fits(state: State) -> bool
-    ensures { λ r. ⌜ r ≡ stateFits state ⌝ }
+// Whether stored counters are in their ranges: those of a search, or a data refusal's.
+pub fn counters_fit(counters: Counters) -> bool
+    ensures { λ r. ⌜ r ≡ countersFit counters ⌝ }
 {
-    let numbers = state.numbers;
-    let counters = numbers.counters;
     if solver::in_ranges(counters) {
         return true;
     }

@@ -7,14 +7,14 @@ use borrow.Author.Needs.{needs}
 use Rattle.eos.proofs.critical_point.moved.Statement.{statement}
 use Rattle.eos.proofs.critical_point.moved.Tie as tie
 
-to-bits-requires : tie.Need-to-bits-requires
-to-bits-requires c κs = search needs
+is-one-requires : tie.Need-is-one-requires
+is-one-requires c κs = search needs
 
 marked-requires : tie.Need-marked-requires
 marked-requires c κs = search needs
 
 returns : tie.Need-returns
-returns c = c .marked .ensures ∙ moved-by-mark (c .before .before .before .args .z) _ (moved (c .before .before .before .args .z)) (search needs) (c .before .before .to-bits .ensures) (c .before .if1 .taken) refl
+returns c = c .marked .ensures ∙ moved-by-mark (c .before .before .before .args .z) _ (moved (c .before .before .before .args .z)) (search needs) (c .before .before .is-one .ensures) (c .before .if1 .taken) refl
 
 number-requires : tie.Need-number-requires
 number-requires c κs = search needs
@@ -45,7 +45,7 @@ pub moved-spec : {M : Type 1} → statement M
 moved-spec =
     tie.close
     (tie.spec
-    to-bits-requires
+    is-one-requires
     marked-requires
     returns
     number-requires

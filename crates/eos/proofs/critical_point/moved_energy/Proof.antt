@@ -9,14 +9,14 @@ use borrow.Author.Needs.{needs}
 use Rattle.eos.proofs.critical_point.moved_energy.Statement.{statement}
 use Rattle.eos.proofs.critical_point.moved_energy.Tie as tie
 
-to-bits-requires : tie.Need-to-bits-requires
-to-bits-requires c κs = search needs
+is-one-requires : tie.Need-is-one-requires
+is-one-requires c κs = search needs
 
 returns : tie.Need-returns
 returns c =
     let s = c .before .before in
     let a = s .args in
-    s .pre .1 ∙ ap (λ (x : List Float). take 12 (energyOverT (a .blend) (a .t .c) (a .v .c) x)) (moved-by-mark (a .z) _ (a .n .c) (search needs) (c .before .to-bits .ensures) (c .if1 .taken) (s .pre .0))
+    s .pre .1 ∙ ap (λ (x : List Float). take 12 (energyOverT (a .blend) (a .t .c) (a .v .c) x)) (moved-by-mark (a .z) _ (a .n .c) (search needs) (c .before .is-one .ensures) (c .if1 .taken) (s .pre .0))
 
 energy-over-t-requires : tie.Need-energy-over-t-requires
 energy-over-t-requires c κs = search needs
@@ -25,4 +25,4 @@ returns-2 : tie.Need-returns-2
 returns-2 c = search needs
 
 pub moved-energy-spec : {M : Type 1} → statement M
-moved-energy-spec = tie.close (tie.spec to-bits-requires returns energy-over-t-requires returns-2)
+moved-energy-spec = tie.close (tie.spec is-one-requires returns energy-over-t-requires returns-2)

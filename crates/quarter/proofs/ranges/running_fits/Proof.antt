@@ -22,14 +22,14 @@ span-of-requires c κs = search needs
 returns-2 : tie.Need-returns-2
 returns-2 c = running-late _ _ _ _ _ (c .before .before .before .before .before .get-u64 .ensures) (c .before .before .before .before .if1 .left) (c .before .before .before .get-u642 .ensures) (c .before .before .first-kind .ensures) (c .before .span-of .ensures) (c .if2 .taken)
 
-load-state-requires : tie.Need-load-state-requires
-load-state-requires c κs = search needs
+load-counters-requires : tie.Need-load-counters-requires
+load-counters-requires c κs = search needs
 
-fits-requires : tie.Need-fits-requires
-fits-requires c κs = search needs
+counters-fit-requires : tie.Need-counters-fit-requires
+counters-fit-requires c κs = search needs
 
 returns-3 : tie.Need-returns-3
-returns-3 c = running-state _ _ _ _ _ (c .before .before .before .before .before .before .before .get-u64 .ensures) (c .before .before .before .before .before .before .if1 .left) (c .before .before .before .before .before .get-u642 .ensures) (c .before .before .before .before .first-kind .ensures) (c .before .before .before .span-of .ensures) _ _ (c .before .before .if2 .left) (c .before .load-state .ensures) (c .fits2 .ensures)
+returns-3 c = running-state _ _ _ _ _ (c .before .before .before .before .before .before .before .get-u64 .ensures) (c .before .before .before .before .before .before .if1 .left) (c .before .before .before .before .before .get-u642 .ensures) (c .before .before .before .before .first-kind .ensures) (c .before .before .before .span-of .ensures) _ _ (c .before .before .if2 .left) (c .before .load-counters .ensures) (c .counters-fit .ensures)
 
 pub running-fits-spec : {M : Type 1} → statement M
 running-fits-spec =
@@ -41,6 +41,6 @@ running-fits-spec =
     first-kind-requires
     span-of-requires
     returns-2
-    load-state-requires
-    fits-requires
+    load-counters-requires
+    counters-fit-requires
     returns-3)

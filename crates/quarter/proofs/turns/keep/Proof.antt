@@ -4,8 +4,8 @@ use Rattle.board_spec.specs.Quarter.{keptQuarter}
 use Rattle.quarter.proofs.turns.keep.Statement.{statement}
 use Rattle.quarter.proofs.turns.keep.Tie as tie
 
-stepped-requires : tie.Need-stepped-requires
-stepped-requires c κs = search needs
+kept-state-requires : tie.Need-kept-state-requires
+kept-state-requires c κs = search needs
 
 get-u64-requires : tie.Need-get-u64-requires
 get-u64-requires c κs = search needs
@@ -24,13 +24,13 @@ same-length c = search needs
 
 returns : tie.Need-returns
 unfolding keptQuarter
-returns c = rw (c .before .before .store-state .ensures, c .before .before .before .before .before .before .put-u64 .ensures, c .before .before .before .before .before .before .before .before .get-u64 .ensures, c .before .before .before .before .before .before .before .before .before .before .stepped .ensures)
+returns c = rw (c .before .before .store-state .ensures, c .before .before .before .before .before .before .put-u64 .ensures, c .before .before .before .before .before .before .before .before .get-u64 .ensures, c .before .before .before .before .before .before .before .before .before .before .kept-state .ensures)
 
 pub keep-spec : {M : Type 1} → statement M
 keep-spec =
     tie.close
     (tie.spec
-    stepped-requires
+    kept-state-requires
     get-u64-requires
     add-put-u64
     put-u64-requires

@@ -1,22 +1,19 @@
--- `stepping::jobs::fits` meets its contract. Assumes nothing.
+-- `stepping::jobs::counters_fit` meets its contract. Assumes nothing.
 use borrow.Author.Needs.{needs}
-use Rattle.stepping.specs.Stepping.{stateFits}
-use Rattle.stepping.proofs.jobs.fits.Statement.{statement}
-use Rattle.stepping.proofs.jobs.fits.Tie as tie
+use Rattle.stepping.proofs.jobs.counters_fit.Statement.{statement}
+use Rattle.stepping.proofs.jobs.counters_fit.Tie as tie
 
 in-ranges-requires : tie.Need-in-ranges-requires
 in-ranges-requires c κs = search needs
 
 returns : tie.Need-returns
-unfolding stateFits
 returns c = rw (← c .before .in-ranges .ensures, c .if1 .taken)
 
 data-refusal-requires : tie.Need-data-refusal-requires
 data-refusal-requires c κs = search needs
 
 returns-2 : tie.Need-returns-2
-unfolding stateFits
 returns-2 c = rw (← c .before .before .in-ranges .ensures, c .before .if1 .left, ← c .data-refusal .ensures)
 
-pub fits-spec : {M : Type 1} → statement M
-fits-spec = tie.close (tie.spec in-ranges-requires returns data-refusal-requires returns-2)
+pub counters-fit-spec : {M : Type 1} → statement M
+counters-fit-spec = tie.close (tie.spec in-ranges-requires returns data-refusal-requires returns-2)
