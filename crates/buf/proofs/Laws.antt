@@ -232,6 +232,21 @@ pub get-all : (s : List ℕ) (at k i v : ℕ) → i ≤ 0 → v ≡ le (part s (
 unfolding numAt
 get-all s at k i v h e = let z : i ≡ 0 = omega arith in e ∙ ap (λ (n : ℕ). le (part s (at + n) (k - n))) z ∙ simp (add-zero, sub-zero)
 
+-- the number of eight bytes at once
+pub get-eight : (s : List ℕ) (at b0 b1 b2 b3 b4 b5 b6 b7 : ℕ) → at + 8 ≤ length s → b0 ≡ getD s at 0 → b0 < 256 → b1 ≡ getD s (at + 1) 0 → b1 < 256 → b2 ≡ getD s (at + 2) 0 → b2 < 256 → b3 ≡ getD s (at + 3) 0 → b3 < 256 → b4 ≡ getD s (at + 4) 0 → b4 < 256 → b5 ≡ getD s (at + 5) 0 → b5 < 256 → b6 ≡ getD s (at + 6) 0 → b6 < 256 → b7 ≡ getD s (at + 7) 0 → b7 < 256
+    → b0 + b1 * 0x100 + b2 * 0x10000 + b3 * 0x1000000 + b4 * 0x100000000 + b5 * 0x10000000000 + b6 * 0x1000000000000 + b7 * 0x100000000000000 ≡ numAt 8 s at
+get-eight s at b0 b1 b2 b3 b4 b5 b6 b7 h e0 l0 e1 l1 e2 l2 e3 l3 e4 l4 e5 l5 e6 l6 e7 l7 =
+    let v7 = get-step s at 8 (0) 8 b7 (omega arith) (omega arith) h (get-none s at 8 8 refl) e7 l7 in
+    let v6 = get-step s at 8 ((0) * 256 + b7) 7 b6 (omega arith) (omega arith) h v7 e6 l6 in
+    let v5 = get-step s at 8 (((0) * 256 + b7) * 256 + b6) 6 b5 (omega arith) (omega arith) h v6 e5 l5 in
+    let v4 = get-step s at 8 ((((0) * 256 + b7) * 256 + b6) * 256 + b5) 5 b4 (omega arith) (omega arith) h v5 e4 l4 in
+    let v3 = get-step s at 8 (((((0) * 256 + b7) * 256 + b6) * 256 + b5) * 256 + b4) 4 b3 (omega arith) (omega arith) h v4 e3 l3 in
+    let v2 = get-step s at 8 ((((((0) * 256 + b7) * 256 + b6) * 256 + b5) * 256 + b4) * 256 + b3) 3 b2 (omega arith) (omega arith) h v3 e2 l2 in
+    let v1 = get-step s at 8 (((((((0) * 256 + b7) * 256 + b6) * 256 + b5) * 256 + b4) * 256 + b3) * 256 + b2) 2 b1 (omega arith) (omega arith) h v2 e1 l1 in
+    let v0 = get-step s at 8 ((((((((0) * 256 + b7) * 256 + b6) * 256 + b5) * 256 + b4) * 256 + b3) * 256 + b2) * 256 + b1) 1 b0 (omega arith) (omega arith) h v1 (e0 ∙ ap (λ (n : ℕ). getD s n 0) (sym (add-zero at))) l0 in
+    let same : b0 + b1 * 0x100 + b2 * 0x10000 + b3 * 0x1000000 + b4 * 0x100000000 + b5 * 0x10000000000 + b6 * 0x1000000000000 + b7 * 0x100000000000000 ≡ ((((((((0) * 256 + b7) * 256 + b6) * 256 + b5) * 256 + b4) * 256 + b3) * 256 + b2) * 256 + b1) * 256 + b0 = omega arith in
+    same ∙ get-all s at 8 0 (((((((((0) * 256 + b7) * 256 + b6) * 256 + b5) * 256 + b4) * 256 + b3) * 256 + b2) * 256 + b1) * 256 + b0) (omega arith) v0
+
 pub put-all : (s w : List ℕ) (at k x i : ℕ) → k ≤ i → splice s (at + i) (bytesOf (k - i) x) ≡ w → s ≡ w
 unfolding bytesOf
 put-all s w at k x i h e = let z : k - i ≡ 0 = omega arith in sym (splice-nil s (at + i)) ∙ ap (λ (n : ℕ). splice s (at + i) (bytesOf n x)) (sym z) ∙ e

@@ -50,11 +50,27 @@ pub fn put_part(s: &mut [u8], at: usize, b: &[u8])
     }
 }
 
+// Without a loop, which the compiler makes one load of.
 pub fn get_u64(s: &[u8], at: usize) -> u64
     requires { ⌜ at + 8 ≤ length (now s) ⌝ }
     ensures { λ r. ⌜ r ≡ u64At (now (s .entry)) at ⌝ }
 {
-    get_num(s, at, 8)
+    let b0 = wide(s[at]);
+    let b1 = wide(s[at + 1]);
+    let b2 = wide(s[at + 2]);
+    let b3 = wide(s[at + 3]);
+    let b4 = wide(s[at + 4]);
+    let b5 = wide(s[at + 5]);
+    let b6 = wide(s[at + 6]);
+    let b7 = wide(s[at + 7]);
+    b0
+        + b1 * 0x100
+        + b2 * 0x1_0000
+        + b3 * 0x100_0000
+        + b4 * 0x1_0000_0000
+        + b5 * 0x100_0000_0000
+        + b6 * 0x1_0000_0000_0000
+        + b7 * 0x100_0000_0000_0000
 }
 
 pub fn put_u64(s: &mut [u8], at: usize, v: u64)
