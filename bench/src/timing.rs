@@ -61,17 +61,17 @@ fn ticks_of<R>(call: impl FnOnce() -> R) -> (R, u64) {
     (result, ticks() - start)
 }
 
-/// Over 20 ms.
+/// Over 2 ms.
 fn ns_per_tick() -> f64 {
     let (start, first) = (Instant::now(), ticks());
-    while start.elapsed().as_millis() < 20 {}
+    while start.elapsed().as_millis() < 2 {}
     let (elapsed, last) = (start.elapsed(), ticks());
     elapsed.as_secs_f64() * 1e9 / (last - first) as f64
 }
 
 impl Clock {
     pub fn new() -> Self {
-        let mut ns: Vec<f64> = (0..5).map(|_| ns_per_tick()).collect();
+        let mut ns: Vec<f64> = (0..3).map(|_| ns_per_tick()).collect();
         let mut empty: Vec<f64> = (0..10_001).map(|_| ticks_of(|| black_box(())).1 as f64).collect();
         Clock { ns_per_tick: median(&mut ns), empty: median(&mut empty) }
     }

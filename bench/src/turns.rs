@@ -1,8 +1,8 @@
 //! The board's calls beside the oracle's, for each kind and N = 1, 2, 8, on the requests of `jobs`: single calls, what an
 //! evaluating turn spends besides its evaluation, and jobs a second through the board.
 //!
-//! Each call is timed alone by `Clock`, on a board whose four queues are running and full but for what the call needs. The
-//! words that it changes are put back, so that the same call is made again, the two sides in turn.
+//! Each call is timed alone by `Clock`, on a board whose four queues are running and full but for what the call needs, turns
+//! also on a board that holds one job. The words that a call changes are put back, so that it is made again, the two sides in turn.
 use crate::blends::{Blend, Evaluation, Rows, EVALUATIONS};
 use crate::proved;
 use crate::requests::{self, jobs, Job};
@@ -192,6 +192,9 @@ struct Cases<'a> {
     points: Vec<Timed<Point>>,
     finished: Vec<Timed<Case<'a>>>,
     handing_out: Vec<Timed<Case<'a>>>,
+    /// the same turns on a board that holds the one job
+    evaluating_alone: Vec<Timed<Case<'a>>>,
+    finished_alone: Vec<Timed<Case<'a>>>,
 }
 
 impl<'a> Cases<'a> {
@@ -209,8 +212,20 @@ impl<'a> Cases<'a> {
             for queue in 0..QUEUES {
                 submit(&mut board, queue, job_at(jobs, queue, place));
             }
+            cases.alone(job_at(jobs, 0, place));
         }
         cases
+    }
+
+    /// The turns of a job on a board that holds no other, in the order of `points`.
+    fn alone(&mut self, job: &Job) {
+        let mut board = vec![0; BOARD];
+        submit(&mut board, 0, job);
+        for _ in evaluations_of(job) {
+            self.evaluating_alone.push(Case::new(&board, Call::Turn));
+            round(&mut board, false);
+        }
+        self.finished_alone.push(Case::new(&board, Call::Turn));
     }
 
     /// Follows the first job of queue 0 from its first turn to its last.
@@ -236,7 +251,7 @@ impl<'a> Cases<'a> {
         self.points.extend(points.into_iter().map(Timed::new));
     }
 
-    fn rows(&mut self) -> [(&'static str, &mut Vec<Timed<Case<'a>>>); 6] {
+    fn rows(&mut self) -> [(&'static str, &mut Vec<Timed<Case<'a>>>); 8] {
         [
             ("submit", &mut self.submit),
             ("look", &mut self.look),
@@ -244,17 +259,20 @@ impl<'a> Cases<'a> {
             ("turn, evaluating", &mut self.evaluating),
             ("turn, finished job", &mut self.finished),
             ("turn, handing out", &mut self.handing_out),
+            ("evaluating, alone", &mut self.evaluating_alone),
+            ("finished, alone", &mut self.finished_alone),
         ]
     }
 
     fn time(&mut self, clock: &Clock) {
-        for cases in [&mut self.submit, &mut self.look, &mut self.empty, &mut self.finished, &mut self.handing_out] {
+        for cases in [&mut self.submit, &mut self.look, &mut self.empty, &mut self.finished, &mut self.handing_out, &mut self.finished_alone] {
             let times = CALLS.div_ceil(cases.len());
             cases.iter_mut().for_each(|case| time(clock, times, case, None));
         }
         let times = CALLS.div_ceil(self.evaluating.len());
-        for (case, point) in self.evaluating.iter_mut().zip(&mut self.points) {
+        for ((case, alone), point) in self.evaluating.iter_mut().zip(&mut self.evaluating_alone).zip(&mut self.points) {
             time(clock, times, case, Some(point));
+            time(clock, times, alone, None);
         }
     }
 }
@@ -299,9 +317,9 @@ fn figures<T>(cases: &[Timed<T>], side: usize) -> Figures {
     Figures { median, by_work, most, longest: all[all.len() - 1] }
 }
 
-/// Over the cases, of the median of each.
+/// Over the cases, of the best run of each.
 fn mean<T>(cases: &[Timed<T>], side: usize) -> f64 {
-    let sum: f64 = cases.iter().map(|case| median(&mut case.times[side].clone())).sum();
+    let sum: f64 = cases.iter().map(|case| best(&case.times[side])).sum();
     sum / cases.len() as f64
 }
 
@@ -324,16 +342,11 @@ fn print_calls(kind: u8, n: usize, cases: &mut Cases) {
 }
 
 fn print_besides(kind: u8, n: usize, cases: &Cases) {
-    let [a, b] = [0, 1].map(|side| (mean(&cases.evaluating, side), mean(&cases.points, side)));
-    println!(
-        "{kind:>4} {n:>2} {:>10.0} {:>10.0} {:>10.0} {:>12.0} {:>12.0} {:>12.0}",
-        a.0,
-        a.1,
-        a.0 - a.1,
-        b.0,
-        b.1,
-        b.0 - b.1
-    );
+    let [a, b] = [0, 1].map(|side| {
+        let evaluation = mean(&cases.points, side);
+        (evaluation, mean(&cases.evaluating, side) - evaluation, mean(&cases.evaluating_alone, side) - evaluation)
+    });
+    println!("{kind:>4} {n:>2} {:>10.0} {:>10.0} {:>10.0} {:>12.0} {:>12.0} {:>12.0}", a.0, a.1, a.2, b.0, b.1, b.2);
 }
 
 // ---- whole passes
@@ -366,12 +379,11 @@ fn faster(before: [f64; 2], jobs: &[Job]) -> [f64; 2] {
 }
 
 pub fn print() {
-    let clock = Clock::new();
     let rows: Vec<(u8, usize)> = requests::rows().collect();
     let jobs: Vec<Vec<Job>> = rows.iter().map(|&(kind, n)| jobs(kind, n)).collect();
     let mut cases: Vec<Cases> = jobs.iter().map(|jobs| Cases::new(jobs)).collect();
     for round in 0..ROUNDS {
-        deeper(round, &mut || cases.iter_mut().for_each(|cases| cases.time(&clock)));
+        deeper(round, &mut || cases.iter_mut().for_each(|cases| cases.time(&Clock::new())));
     }
     let mut best = vec![[f64::INFINITY; 2]; rows.len()];
     for round in 0..PASSES {
@@ -388,7 +400,7 @@ pub fn print() {
     println!();
     println!(
         "{:>4} {:>2} {:>10} {:>10} {:>10} {:>12} {:>12} {:>12}",
-        "kind", "N", "ours/ns", "evaluation", "besides", "theirs/ns", "evaluation", "besides"
+        "kind", "N", "evaluation", "besides", "alone", "theirs/ns", "besides", "alone"
     );
     for (&(kind, n), cases) in rows.iter().zip(&cases) {
         print_besides(kind, n, cases);

@@ -79,16 +79,6 @@ fn task(kind: u64, c: Conditions) -> Task
     Task::Spinodal(c.temperature)
 }
 
-// The whole blend, or in kinds 5 and 6 the chosen component alone.
-fn searched(kind: u64, choice: u64, whole: Blend) -> Blend
-    ensures { λ r. ⌜ r ≡ searchedOf kind choice whole ⌝ }
-{
-    if reads_fractions(kind) {
-        return whole;
-    }
-    eos::pure(whole, choice as usize)
-}
-
 fn refused(number: u64) -> Job
     ensures { λ r. ⌜ r ≡ refusedOf number ⌝ }
 {
@@ -108,7 +98,7 @@ fn ready(task: Task, blend: Blend) -> Job
     Job { task, blend }
 }
 
-// The checks after those of the blend's own numbers.
+// The checks after those of the blend's own numbers. Kinds 5 and 6 search the chosen component alone.
 fn under_conditions(kind: u64, n: u64, c: Conditions, whole: Blend) -> Job
     ensures { λ r. ⌜ r ≡ check (conditionsFit kind c) 15 (check (choiceFits kind n (c .choice) && positiveOf (maxDensity (searchedOf kind (c .choice) whole))) 16 (record { task = taskOf kind c; blend = searchedOf kind (c .choice) whole })) ⌝ }
 {
@@ -119,7 +109,10 @@ fn under_conditions(kind: u64, n: u64, c: Conditions, whole: Blend) -> Job
     if !choice_fits(kind, n, choice) {
         return refused(16);
     }
-    ready(task(kind, c), searched(kind, choice, whole))
+    if reads_fractions(kind) {
+        return ready(task(kind, c), whole);
+    }
+    ready(task(kind, c), eos::pure(whole, choice as usize))
 }
 
 fn checked(kind: u64, n: u64, block: &[u8]) -> Job
