@@ -36,7 +36,8 @@ pub fn compare(what: &'static str, against: &'static str, count: usize, ours: &m
 }
 
 /// The processor's clock, for single calls. It is read between fences: what was begun before is done by then, and nothing
-/// after it has begun. An empty call is timed the same way, and its median is taken off every time.
+/// after it has begun. An empty call is timed the same way, and its best time is taken off every time: no less than a call's
+/// own is left, also where the processor is slower for a while.
 pub struct Clock {
     ns_per_tick: f64,
     empty: f64,
@@ -71,9 +72,13 @@ fn ns_per_tick() -> f64 {
 
 impl Clock {
     pub fn new() -> Self {
-        let mut ns: Vec<f64> = (0..3).map(|_| ns_per_tick()).collect();
-        let mut empty: Vec<f64> = (0..10_001).map(|_| ticks_of(|| black_box(())).1 as f64).collect();
-        Clock { ns_per_tick: median(&mut ns), empty: median(&mut empty) }
+        let mut ns = Vec::new();
+        let mut empty = f64::INFINITY;
+        for _ in 0..25 {
+            ns.push(ns_per_tick());
+            empty = (0..4_000).map(|_| ticks_of(|| black_box(())).1 as f64).fold(empty, f64::min);
+        }
+        Clock { ns_per_tick: median(&mut ns), empty }
     }
 
     /// What the call gives, and its nanoseconds.

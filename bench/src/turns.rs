@@ -379,11 +379,12 @@ fn faster(before: [f64; 2], jobs: &[Job]) -> [f64; 2] {
 }
 
 pub fn print() {
+    let clock = Clock::new();
     let rows: Vec<(u8, usize)> = requests::rows().collect();
     let jobs: Vec<Vec<Job>> = rows.iter().map(|&(kind, n)| jobs(kind, n)).collect();
     let mut cases: Vec<Cases> = jobs.iter().map(|jobs| Cases::new(jobs)).collect();
     for round in 0..ROUNDS {
-        deeper(round, &mut || cases.iter_mut().for_each(|cases| cases.time(&Clock::new())));
+        deeper(round, &mut || cases.iter_mut().for_each(|cases| cases.time(&clock)));
     }
     let mut best = vec![[f64::INFINITY; 2]; rows.len()];
     for round in 0..PASSES {
