@@ -117,7 +117,7 @@ impl Repeated for Case<'_> {
     }
 }
 
-/// The evaluation that a turn makes, by itself.
+/// The evaluation that a turn makes, by itself. Ours goes through `eos_*`, which first copies the blend's arrays together.
 struct Point {
     blend: Rc<Blend>,
     evaluation: &'static Evaluation,
@@ -129,9 +129,12 @@ impl Point {
     /// Sees that the evaluation on this blend yields what it did in the job.
     fn new(blend: &Rc<Blend>, made: &evaluations::Evaluation) -> Self {
         let evaluation = EVALUATIONS.iter().find(|evaluation| evaluation.name == made.call).expect("an evaluation of the oracle's");
-        let yielded = (evaluation.ours)(blend, made.temperature, made.density);
-        let same = made.yields.iter().zip(yielded).all(|(&x, y)| float::bits(x) == float::bits(y));
-        assert!(same, "{}: another evaluation than the job's", made.call);
+        assert!(!made.yields.is_empty(), "an evaluation that yields nothing");
+        for evaluate in [evaluation.ours, evaluation.theirs] {
+            let yielded = evaluate(blend, made.temperature, made.density);
+            let same = made.yields.iter().zip(yielded).all(|(&x, y)| float::bits(x) == float::bits(y));
+            assert!(same, "{}: another evaluation than the job's", made.call);
+        }
         Point { blend: blend.clone(), evaluation, temperature: made.temperature, density: made.density }
     }
 }
