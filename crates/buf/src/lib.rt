@@ -50,7 +50,7 @@ pub fn put_part(s: &mut [u8], at: usize, b: &[u8])
     }
 }
 
-// Without a loop, which the compiler makes one load of.
+// Without a loop, so that the compiler makes one load of it.
 pub fn get_u64(s: &[u8], at: usize) -> u64
     requires { ⌜ at + 8 ≤ length (now s) ⌝ }
     ensures { λ r. ⌜ r ≡ u64At (now (s .entry)) at ⌝ }

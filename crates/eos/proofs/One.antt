@@ -3,15 +3,14 @@ use mathlib.Core.Path.{_≡_, refl, sym, ap, _∙_}
 use mathlib.Core.List.{List}
 use mathlib.Core.Bool.{Bool, true}
 use lib.Dec.{T, eqb}
-use lib.Ieee.{Float, binary64, fits, ofBits, toBits, add, mul, sub, div, round, fin}
+use lib.Ieee.{Float, binary64, fits, ofBits, toBits, add, mul, sub, div, round}
 use borrow.Author.Tests.{eqb-true}
-use Rattle.float.specs.Ops.{_⊕_, _⊖_, _⊗_, _⊘_, f0, f1, f2}
+use Rattle.float.specs.Ops.{f1}
 use Rattle.float.specs.Above.{above}
 use Rattle.float.specs.Root.{root, rootOf as floatRootOf, sticky, isqrt, isqrtIn}
 use Rattle.float.proofs.RoundTrip.{value-back}
-use Rattle.jet.specs.Positions.{notAbove, among, pairsOf, before, between}
-use Rattle.jet.specs.Coefficients.{at, build, numberOf, markedOf, sumOf, total, less, productAt, productOf, rootAt, rootOf}
-use Rattle.jet.specs.Ops.{_⊞_, _⊠_}
+use Rattle.jet.specs.Positions.{notAbove, among, pairsOf, between}
+use Rattle.jet.specs.Coefficients.{build, numberOf, markedOf, sumOf, total, less, productAt, productOf, rootAt, rootOf}
 use Rattle.eos.specs.Critical.{moved}
 
 root-one : root f1 ≡ f1

@@ -1,4 +1,4 @@
--- An array of jets. Definitions only.
+-- An array of jets, and a table of unordered pairs of its indices. Definitions only.
 use Prim.Native.Nat.{ℕ, _+_, _*_}
 use mathlib.Core.Bool.{cond}
 use mathlib.Core.List.{List, []}

@@ -1,4 +1,4 @@
-// The residual Helmholtz energy of cubic.rs and residual.rs on jets, at positions 0 to 11: all that criticality and stability
+// The residual Helmholtz energy of cubic.rs, residual.rs and `StateHD` on jets, at positions 0 to 11: all that criticality and stability
 // need. helmholtz_4.rt has the same functions in the same order for positions 0 to 3; both equal the definitions of
 // specs/Cubic.antt and specs/Residual.antt. Here the mole numbers are jets.
 ghost use mathlib.Core.Path.{_≡_};
@@ -152,7 +152,7 @@ fn over(n: usize, a: [Jet; 8], d: Jet) -> [Jet; 8]
     out
 }
 
-// One component of mole number moles, without rows.
+// One component of the mole number moles, without arrays of eight jets.
 fn alone(blend: Blend, t: Jet, v: Jet, moles: Jet) -> Mixture
     ensures { λ r. ⌜ Mixes 12 blend 1 (t .c) (partialDensity (λ i. moles .c) (v .c)) r ⌝ }
 {
@@ -191,6 +191,7 @@ fn many(n: usize, blend: Blend, t: Jet, v: Jet, moles: [Jet; 8]) -> Mixture
     }
 }
 
+// The first n components, of the mole numbers moles.
 fn mix(n: usize, blend: Blend, t: Jet, v: Jet, moles: [Jet; 8]) -> Mixture
     requires { ⌜ (1 ≤ n) × (n ≤ 8) ⌝ }
     ensures { λ r. ⌜ Mixes 12 blend n (t .c) (partialDensity (jetAt moles) (v .c)) r ⌝ }

@@ -1,4 +1,4 @@
-// The residual Helmholtz energy of cubic.rs and residual.rs on jets, at positions 0 to 3: all that the evaluations along the
+// The residual Helmholtz energy of cubic.rs, residual.rs and `StateHD` on jets, at positions 0 to 3: all that the evaluations along the
 // density need. helmholtz_12.rt has the same functions in the same order for positions 0 to 11; both equal the definitions
 // of specs/Cubic.antt and specs/Residual.antt.
 ghost use mathlib.Core.Path.{_≡_};
@@ -153,7 +153,7 @@ fn over(n: usize, a: [Jet; 8], d: Jet) -> [Jet; 8]
     out
 }
 
-// One component of mole number moles, without rows.
+// One component of the mole number moles, without arrays of eight jets.
 fn alone(blend: Blend, t: Jet, v: Jet, moles: Jet) -> Mixture
     ensures { λ r. ⌜ Mixes 4 blend 1 (t .c) (partialDensity (λ i. moles .c) (v .c)) r ⌝ }
 {

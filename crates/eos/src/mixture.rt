@@ -1,4 +1,5 @@
-// What the two forms of the Helmholtz energy, helmholtz_4.rt and helmholtz_12.rt, share: it asks for no positions.
+// What the two forms of the Helmholtz energy, helmholtz_4.rt and helmholtz_12.rt, share: whole jets, and the roots of their first
+// coefficients.
 ghost use mathlib.Core.Path.{_≡_};
 ghost use Prim.Native.Nat.{ℕ, _+_, _*_, _≤_, _<_};
 ghost use Rattle.float.specs.Ops.{_⊗_};

@@ -1,4 +1,4 @@
-// residual.rs and `StateHD` of state/mod.rs: the evaluations along the density.
+// residual.rs: the evaluations along the density.
 ghost use mathlib.Core.Path.{_≡_};
 ghost use Rattle.jet.specs.Coefficients.{Upto};
 ghost use Rattle.eos.specs.Residual.{alongVolume, pressureFrom, slopeFrom, curvatureFrom, pDpdrho, pDpdrhoD2pdrho2, chemicalPotential};

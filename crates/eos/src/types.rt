@@ -1,4 +1,4 @@
-// What a blend is, and what the evaluations yield. All by value.
+// What a blend is, what its components make together, and what the evaluations yield. All by value.
 use jet::Jet;
 
 // The parameters of one component: critical temperature, a, b and kappa.

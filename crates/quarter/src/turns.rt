@@ -1,4 +1,5 @@
-// A turn of a queue: one evaluation of its first job, which leaves with its record on the last turn of its span.
+// A turn of a queue: one evaluation of its first job, or none once its search has ended. The job leaves with its record on the
+// last turn of its span.
 ghost use mathlib.Core.Path.{_≡_};
 ghost use Prim.Native.Nat.{_+_, _≤_, _<_, _^_};
 ghost use mathlib.Core.Bool.{true, not, _&&_};

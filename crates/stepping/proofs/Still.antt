@@ -1,7 +1,7 @@
--- A step from an end leads nowhere. Assumes nothing.
+-- A step from an end is the same state. Assumes nothing.
 use mathlib.Core.Path.{_≡_, refl, sym, _∙_, subst}
-use Prim.Native.Nat.{ℕ, _^_, _<_}
-use mathlib.Core.Bool.{Bool, true, false, _&&_}
+use Prim.Native.Nat.{_^_, _<_}
+use mathlib.Core.Bool.{true}
 use lib.Dec.{eqb}
 use Rattle.solver.specs.Search.{Evaluator}
 use Rattle.solver.specs.Evaluated.{evaluated}
