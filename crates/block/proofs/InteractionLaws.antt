@@ -142,5 +142,8 @@ unfolding place
 place-last n i j p h a b e = rw add-one (omega (arith, row-next n i))
 
 -- the number read
-pub interaction-read : (n : ℕ) (s : List ℕ) (from i j p : ℕ) (x : Float) → n ≤ 8 → i < j → j < n → p ≡ place n i j → x ≡ f64At s (from + 8 * p) → x ≡ at (floatsAt (n * (n - 1) / 2) s from) p
-interaction-read n s from i j p x m a b ep ex = let c = place-below n i j a b in let d = product n m in ex ∙ read-at (n * (n - 1) / 2) s from p (omega arith) (omega arith)
+pub interaction-at : (n : ℕ) (s : List ℕ) (from p : ℕ) → n ≤ 8 → p < n * (n - 1) / 2 → f64At s (from + 8 * p) ≡ at (floatsAt (n * (n - 1) / 2) s from) p
+interaction-at n s from p m h = let d = product n m in read-at (n * (n - 1) / 2) s from p h (omega arith)
+
+pub interaction-read : (n : ℕ) (s : List ℕ) (from i j p : ℕ) → n ≤ 8 → i < j → j < n → p ≡ place n i j → f64At s (from + 8 * p) ≡ at (floatsAt (n * (n - 1) / 2) s from) p
+interaction-read n s from i j p m a b ep = let c = place-below n i j a b in interaction-at n s from p m (omega arith)

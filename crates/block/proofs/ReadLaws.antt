@@ -15,7 +15,8 @@ use Rattle.eos.specs.declared.types.Component.{Component}
 use Rattle.block.specs.Lists.{tabulate, allBelow}
 use Rattle.block.specs.Numbers.{floatsAt}
 use Rattle.block.specs.Blend.{at, ofRow, componentAt}
-use Rattle.block.specs.Checks.{componentFits, fractionFits}
+use Rattle.block.specs.Checks.{positive, componentFits, fractionFits}
+use Rattle.block.proofs.PairLaws.{both}
 use Rattle.block.proofs.Lists.{getD-tabulate, tabulate-same, upto, all-rest}
 
 -- a reader that stops says nothing of what it leaves
@@ -38,17 +39,30 @@ read-past count s from i h b = sym (getD-tabulate 28 _ i nan b ∙ rw (le-ltb i 
 abbrev pub componentTest : List Float → ℕ → Bool
 componentTest row i = componentFits (at row (3 * i)) (at row (3 * i + 1)) (at row (3 * i + 2))
 
+-- the numbers of a component that fits are finite
+pub positive-finite : (x : Float) → positive x ≡ true → finiteOf x ≡ true
+unfolding positive
+positive-finite x e = both (finiteOf x) e .0
+
+pub component-finite : (t p w : Float) → componentFits t p w ≡ true → (finiteOf t ≡ true) × ((finiteOf p ≡ true) × (finiteOf w ≡ true))
+unfolding componentFits
+component-finite t p w e =
+    let f = both (positive t) e in
+    let g = both (positive p) (f .1) in
+    (positive-finite t (f .0), (positive-finite p (g .0), both (finiteOf w) (g .1) .0))
+
 -- its three numbers
-pub component-numbers : (n : ℕ) (s : List ℕ) (from i : ℕ) (t p w : Float) → i < n → n ≤ 8 → t ≡ f64At s (from + 24 * i) → p ≡ f64At s (from + 24 * i + 8) → w ≡ f64At s (from + 24 * i + 16)
-    → (t ≡ at (floatsAt (3 * n) s from) (3 * i)) × ((p ≡ at (floatsAt (3 * n) s from) (3 * i + 1)) × (w ≡ at (floatsAt (3 * n) s from) (3 * i + 2)))
-component-numbers n s from i t p w h b et ep ew =
+pub component-numbers : (n : ℕ) (s : List ℕ) (from i : ℕ) → i < n → n ≤ 8
+    → (f64At s (from + 24 * i) ≡ at (floatsAt (3 * n) s from) (3 * i))
+    × ((f64At s (from + 24 * i + 8) ≡ at (floatsAt (3 * n) s from) (3 * i + 1)) × (f64At s (from + 24 * i + 16) ≡ at (floatsAt (3 * n) s from) (3 * i + 2)))
+component-numbers n s from i h b =
     let place : (k : ℕ) → k < 3 → f64At s (from + 8 * (3 * i + k)) ≡ at (floatsAt (3 * n) s from) (3 * i + k) = λ k l. read-at (3 * n) s from (3 * i + k) (omega arith) (omega arith) in
     let first : from + 24 * i ≡ from + 8 * (3 * i + 0) = omega arith in
     let second : from + 24 * i + 8 ≡ from + 8 * (3 * i + 1) = omega arith in
     let third : from + 24 * i + 16 ≡ from + 8 * (3 * i + 2) = omega arith in
     let none : 3 * i + 0 ≡ 3 * i = omega arith in (
-      et ∙ ap (f64At s) first ∙ place 0 (omega arith) ∙ ap (at (floatsAt (3 * n) s from)) none,
-      (ep ∙ ap (f64At s) second ∙ place 1 (omega arith), ew ∙ ap (f64At s) third ∙ place 2 (omega arith)),
+      ap (f64At s) first ∙ place 0 (omega arith) ∙ ap (at (floatsAt (3 * n) s from)) none,
+      (ap (f64At s) second ∙ place 1 (omega arith), ap (f64At s) third ∙ place 2 (omega arith)),
     )
 
 pub component-tested : (row : List Float) (i : ℕ) (t p w : Float) (r u : Bool) → (t ≡ at row (3 * i)) × ((p ≡ at row (3 * i + 1)) × (w ≡ at row (3 * i + 2))) → r ≡ componentFits t p w → r ≡ u

@@ -1,22 +1,27 @@
 -- What holds of every refusal and of the job that passes every check holds of every view: the walk along the checks, once. Likewise along the kinds. Assumes nothing.
-use mathlib.Core.Path.{_≡_, refl}
+use mathlib.Core.Path.{_≡_, refl, ap, _∙_}
 use Prim.Native.Nat.{ℕ}
-use mathlib.Core.Bool.{Bool, true, false, cond, _&&_}
-use mathlib.Core.List.{List}
+use mathlib.Core.Bool.{Bool, true, false, cond, _&&_, false≢true}
+use mathlib.Core.List.{List, [], _∷_}
 use lib.ListN.{length}
 use lib.Dec.{leb, eqb}
 use borrow.Author.Tests.{eq-eqb}
+use types.Run.{OneOf, miss}
+use denote.Enum.Declared.{tagOf}
 use Rattle.schedule.specs.Spans.{kindFits, countFits}
 use Rattle.schedule.proofs.Tests.{right-true}
+use Rattle.eos.specs.declared.types.Blend.{Blend}
 use Rattle.block.specs.declared.types.Conditions.{Conditions}
 use Rattle.block.specs.declared.types.Numbers.{Numbers}
 use Rattle.block.specs.declared.types.Task.{Task}
-use Rattle.block.specs.declared.types.Task.the-variants.{DensityIteration, DensityIterationStable, PressureSpinodal, PressureSpinodalBranch, CriticalPoint, Spinodal}
+use Rattle.block.specs.declared.types.Task.the-variants.{Refused, DensityIteration, DensityIterationStable, PressureSpinodal, PressureSpinodalBranch, CriticalPoint, Spinodal}
 use Rattle.block.specs.declared.types.Job.{Job}
 use Rattle.block.specs.Pairs.{pairsFit}
 use Rattle.block.specs.Numbers.{numbersOf}
 use Rattle.block.specs.Checks.{componentsFit, interactionsFit, fractionsFit, conditionsFit}
 use Rattle.block.specs.View.{initialOf, branchOf, givenOf, taskOf, refused, check, runBlend, runFits, checked, view}
+use Rattle.block.specs.Reading.{searches}
+use Rattle.block.proofs.types.Task.{the-type}
 
 -- the job that passes every check
 abbrev pub readyJob : (kind n : ℕ) → Numbers → Job
@@ -71,3 +76,32 @@ module _ (P : Task → Type 0) where
   unfolding taskOf
   task-keeps kind c p₁ p₂ p₃ p₄ p₅ p₆ =
       cond-keeps (eqb kind 1) _ _ p₁ (cond-keeps (eqb kind 2) _ _ p₂ (cond-keeps (eqb kind 3) _ _ p₃ (cond-keeps (eqb kind 4) _ _ p₄ (cond-keeps (eqb kind 5) _ _ p₅ p₆))))
+
+-- ---- a job that is refused, and one that is not
+
+task-searches : (kind : ℕ) (c : Conditions) → searches (taskOf kind c) ≡ true
+unfolding searches
+task-searches kind c = task-keeps (λ (task : Task). searches task ≡ true) kind c refl refl refl refl refl refl
+
+-- a refusal says all of the job
+pub view-refused : (kind n : ℕ) (s : List ℕ) (number : ℕ) → Refused number ≡ view kind n s .task → refused number ≡ view kind n s
+unfolding refused searches
+view-refused kind n s number =
+    view-keeps (λ (job : Job). Refused number ≡ job .task → refused number ≡ job) kind n s (λ k _ e. let z : number ≡ k = cc in ap refused z)
+    (λ e. absurd (false≢true (ap searches e ∙ task-searches kind (numbersOf kind n s .conditions))))
+
+-- the task that is left where a match has taken the refusal away
+pub searches-left : (task : Task) → OneOf (1 ∷ 2 ∷ 3 ∷ 4 ∷ 5 ∷ 6 ∷ []) (tagOf the-type task) → searches task ≡ true
+unfolding searches
+searches-left (Refused number) h = absurd (miss (1 ∷ 2 ∷ 3 ∷ 4 ∷ 5 ∷ 6 ∷ []) 0 tt h)
+searches-left (DensityIteration t p initial) h = refl
+searches-left (DensityIterationStable t p) h = refl
+searches-left (PressureSpinodal t start) h = refl
+searches-left (PressureSpinodalBranch t branch) h = refl
+searches-left (CriticalPoint t density) h = refl
+searches-left (Spinodal t) h = refl
+
+-- a job from its task and the rows of its blend
+pub view-searches : (kind n : ℕ) (s : List ℕ) (task : Task) (rows blend : Blend) → task ≡ view kind n s .task → rows ≡ view kind n s .blend → blend ≡ rows
+    → _≡_ {A = Job} (record { task = task; blend = blend }) (view kind n s)
+view-searches kind n s task rows blend et er eb = rw (eb, et, er)

@@ -4,4 +4,5 @@ pub mod Numbers
 pub mod Blend
 pub mod Checks
 pub mod View
+pub mod Reading
 pub mod Alike

@@ -1,5 +1,8 @@
 // The checks 12, 14, 15 and 16 of the supplier's data: one component, one fraction, the conditions, the choice.
 ghost use mathlib.Core.Path.{_≡_};
+ghost use Prim.Native.Nat.{_+_, _≤_};
+ghost use lib.ListN.{length};
+ghost use Rattle.buf.specs.Bytes.{f64At};
 ghost use Rattle.block.specs.Checks.{positive as positiveOf, plusZero, parametersFit, componentFits, fractionFits, temperatureFits, conditionsFit, choices as choicesOf, choiceFits};
 use crate::numbers::reads_fractions;
 use crate::numbers::zero_is_none;
@@ -33,18 +36,33 @@ fn parameters_fit(c: Component) -> bool
     positive(c.b)
 }
 
-pub fn component_fits(tc: f64, pc: f64, acentric_factor: f64) -> bool
-    ensures { λ r. ⌜ r ≡ componentFits tc pc «acentric_factor» ⌝ }
+fn positive_at(s: &[u8], at: usize) -> bool
+    requires { ⌜ at + 8 ≤ length (now s) ⌝ }
+    ensures { λ r. ⌜ r ≡ positiveOf (f64At (now (s .entry)) at) ⌝ }
 {
-    if !positive(tc) {
+    if buf::is_finite_at(s, at) {
+        return 0.0 < buf::get_finite(s, at);
+    }
+    false
+}
+
+// The component of the three numbers from index from.
+pub fn component_fits(s: &[u8], from: usize) -> bool
+    requires { ⌜ from + 24 ≤ length (now s) ⌝ }
+    ensures { λ r. ⌜ r ≡ componentFits (f64At (now (s .entry)) from) (f64At (now (s .entry)) (from + 8)) (f64At (now (s .entry)) (from + 16)) ⌝ }
+{
+    if !positive_at(s, from) {
         return false;
     }
-    if !positive(pc) {
+    if !positive_at(s, from + 8) {
         return false;
     }
-    if !float::is_finite(acentric_factor) {
+    if !buf::is_finite_at(s, from + 16) {
         return false;
     }
+    let tc = buf::get_finite(s, from);
+    let pc = buf::get_finite(s, from + 8);
+    let acentric_factor = buf::get_finite(s, from + 16);
     parameters_fit(eos::component(tc, pc, acentric_factor))
 }
 

@@ -6,6 +6,8 @@ mod pairs;
 mod reader;
 mod types;
 
+pub use crate::reader::read;
+pub use crate::reader::searched_count;
 pub use crate::reader::view;
 pub use crate::types::Conditions;
 pub use crate::types::Job;

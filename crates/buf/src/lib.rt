@@ -1,7 +1,9 @@
 // Little-endian numbers, floats and parts in a slice of bytes. specs/Bytes.antt says what each is, for any list.
 ghost use mathlib.Core.Path.{_≡_};
 ghost use Prim.Native.Nat.{_+_, _≤_, _<_};
+ghost use mathlib.Core.Bool.{true};
 ghost use lib.ListN.{length};
+ghost use Rattle.float.specs.Sign.{finiteOf};
 ghost use Rattle.buf.specs.Bytes.{numAt, putNum, splice, u64At, putU64, f64At, putF64};
 
 fn wide(x: u8) -> u64
@@ -86,6 +88,22 @@ pub fn get_f64(s: &[u8], at: usize) -> f64
     ensures { λ r. ⌜ r ≡ f64At (now (s .entry)) at ⌝ }
 {
     float::from_bits(get_u64(s, at))
+}
+
+// Whether the float at index at is finite.
+pub fn is_finite_at(s: &[u8], at: usize) -> bool
+    requires { ⌜ at + 8 ≤ length (now s) ⌝ }
+    ensures { λ r. ⌜ r ≡ finiteOf (f64At (now (s .entry)) at) ⌝ }
+{
+    float::finite_bits(get_u64(s, at))
+}
+
+// A float that is known to be finite.
+pub fn get_finite(s: &[u8], at: usize) -> f64
+    requires { ⌜ (at + 8 ≤ length (now s)) × (finiteOf (f64At (now s) at) ≡ true) ⌝ }
+    ensures { λ r. ⌜ r ≡ f64At (now (s .entry)) at ⌝ }
+{
+    float::from_finite_bits(get_u64(s, at))
 }
 
 // NaN is stored as the one pattern 7FF8000000000000.

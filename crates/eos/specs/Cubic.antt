@@ -54,6 +54,10 @@ componentOf tc pc ω = record {
   kappa = d0·37464 ⊕ (d1·54226 ⊖ d0·26992 ⊗ ω) ⊗ ω;
 }
 
+-- a blend from its rows
+abbrev pub blendBy : ℕ → List Float → List Float → List Float → List Float → List Float → List Float → Blend
+blendBy n tc a b kappa k x = record { n = n; tc = tc; a = a; b = b; kappa = kappa; «k_ij» = k; x = x }
+
 -- element i of a row of floats
 abbrev pub nth : List Float → ℕ → Float
 nth s i = getD s i nan

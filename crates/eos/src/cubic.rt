@@ -3,7 +3,7 @@ ghost use mathlib.Core.Path.{_≡_};
 ghost use Prim.Native.Nat.{_≤_, _<_};
 ghost use Rattle.float.specs.Ops.{_⊗_};
 ghost use Rattle.eos.specs.Indices.{total};
-ghost use Rattle.eos.specs.Cubic.{nth, elementOf, componentOf, componentsOf, pureOf, maxDensity};
+ghost use Rattle.eos.specs.Cubic.{nth, blendBy, componentOf, componentsOf, maxDensity};
 use crate::types::Blend;
 use crate::types::Component;
 
@@ -35,37 +35,31 @@ pub fn components(blend: Blend) -> usize
     8
 }
 
-// Element i of a row, or NaN beyond it.
-fn element(row: &[f64; 8], i: usize) -> f64
-    ensures { λ r. ⌜ r ≡ elementOf (now (row .entry)) i ⌝ }
+// A blend from its rows.
+pub fn blend(
+    n: usize,
+    tc: &[f64; 8],
+    a: &[f64; 8],
+    b: &[f64; 8],
+    kappa: &[f64; 8],
+    k_ij: &[f64; 64],
+    x: &[f64; 8],
+) -> Blend
+    ensures { λ r. ⌜ r ≡ blendBy n (now (tc .entry)) (now (a .entry)) (now (b .entry)) (now (kappa .entry)) (now («k_ij» .entry)) (now (x .entry)) ⌝ }
 {
-    if i < 8 {
-        return row[i];
-    }
-    0.0 / 0.0
-}
-
-// Component i alone, with fraction 1.
-pub fn pure(blend: Blend, i: usize) -> Blend
-    ensures { λ r. ⌜ r ≡ pureOf blend i ⌝ }
-{
-    let mut tc = [0.0; 8];
-    tc[0] = element(&blend.tc, i);
-    let mut a = [0.0; 8];
-    a[0] = element(&blend.a, i);
-    let mut b = [0.0; 8];
-    b[0] = element(&blend.b, i);
-    let mut kappa = [0.0; 8];
-    kappa[0] = element(&blend.kappa, i);
-    let mut x = [0.0; 8];
-    x[0] = 1.0;
+    let tc = *tc;
+    let a = *a;
+    let b = *b;
+    let kappa = *kappa;
+    let k_ij = *k_ij;
+    let x = *x;
     Blend {
-        n: 1,
+        n,
         tc,
         a,
         b,
         kappa,
-        k_ij: [0.0; 64],
+        k_ij,
         x,
     }
 }

@@ -10,10 +10,10 @@ mod types;
 
 pub use crate::critical_point::criticality_conditions;
 pub use crate::critical_point::stability_condition;
+pub use crate::cubic::blend;
 pub use crate::cubic::component;
 pub use crate::cubic::components;
 pub use crate::cubic::compute_max_density;
-pub use crate::cubic::pure;
 pub use crate::linear::norm;
 pub use crate::linear::solve;
 pub use crate::residual::chemical_potential;

@@ -173,13 +173,23 @@ fn print_stability(s: Stability) {
     print_next(s.df);
 }
 
+// The first component with fraction 1, as kinds 5 and 6 search it; the others stand beside it unread.
+fn first_component(blend: Blend) -> Blend {
+    let tc = blend.tc;
+    let a = blend.a;
+    let b = blend.b;
+    let kappa = blend.kappa;
+    let k_ij = blend.k_ij;
+    eos::blend(1, &tc, &a, &b, &kappa, &k_ij, &[1.0; 8])
+}
+
 fn print_evaluation(evaluation: u8, blend: Blend, t: f64, rho: f64) {
     match evaluation {
         1 => print_pressure(eos::p_dpdrho(blend, t, rho)),
         2 => print_pressure(eos::p_dpdrho_d2pdrho2(blend, t, rho)),
         3 => print_float(eos::chemical_potential(blend, t, rho)),
-        4 => print_criticality(eos::criticality_conditions(eos::pure(blend, 0), t, rho)),
-        _ => print_stability(eos::stability_condition(eos::pure(blend, 0), t, rho)),
+        4 => print_criticality(eos::criticality_conditions(first_component(blend), t, rho)),
+        _ => print_stability(eos::stability_condition(first_component(blend), t, rho)),
     }
 }
 

@@ -1,14 +1,9 @@
--- How a blend comes in by arrays, and what the evaluations yield goes out as one. Definitions only.
-use Prim.Native.Nat.{ℕ}
+-- What the evaluations yield, as one row each. Definitions only.
 use mathlib.Core.List.{List, [], _∷_}
 use lib.Ieee.{Float}
-use Rattle.eos.specs.declared.types.Blend.{Blend}
 use Rattle.eos.specs.declared.types.Pressure.{Pressure}
 use Rattle.eos.specs.declared.types.Criticality.{Criticality}
 use Rattle.eos.specs.declared.types.Stability.{Stability}
-
-abbrev pub blendOf : ℕ → List Float → List Float → List Float → List Float → List Float → List Float → Blend
-blendOf n tc a b kappa k x = record { n = n; tc = tc; a = a; b = b; kappa = kappa; «k_ij» = k; x = x }
 
 abbrev pub pressureRow : Pressure → List Float
 pressureRow y = y .p ∷ y .«dp_drho» ∷ y .«d2p_drho2» ∷ []

@@ -9,9 +9,9 @@ ghost use Rattle.eos.specs.Critical.{criticalityConditions, stabilityCondition}
 ghost use Rattle.records.specs.Answered.{numberOf, answered};
 ghost use Rattle.board_spec.specs.Board.{submitBoard, turnBoard, lookBoard};
 ghost use Rattle.board.specs.Answers.{numberOf as numberSaid, ticketOf, evaluationsOf, densityOf};
-ghost use Rattle.exports.specs.Rows.{blendOf, pressureRow, criticalityRow, stabilityRow};
+ghost use Rattle.eos.specs.Cubic.{blendBy};
+ghost use Rattle.exports.specs.Rows.{pressureRow, criticalityRow, stabilityRow};
 use board::Told;
-use eos::Blend;
 use jet::Jet;
 
 #[no_mangle]
@@ -137,34 +137,6 @@ pub extern "C" fn jet_ln_to(n: usize, a: &[f64; 16], r: &mut [f64; 16])
     *r = c;
 }
 
-fn blend(
-    n: usize,
-    tc: &[f64; 8],
-    a: &[f64; 8],
-    b: &[f64; 8],
-    kappa: &[f64; 8],
-    k_ij: &[f64; 64],
-    x: &[f64; 8],
-) -> Blend
-    ensures { λ r. ⌜ r ≡ blendOf n (now (tc .entry)) (now (a .entry)) (now (b .entry)) (now (kappa .entry)) (now («k_ij» .entry)) (now (x .entry)) ⌝ }
-{
-    let tc = *tc;
-    let a = *a;
-    let b = *b;
-    let kappa = *kappa;
-    let k_ij = *k_ij;
-    let x = *x;
-    Blend {
-        n,
-        tc,
-        a,
-        b,
-        kappa,
-        k_ij,
-        x,
-    }
-}
-
 #[no_mangle]
 pub extern "C" fn eos_p_dpdrho(
     n: usize,
@@ -178,9 +150,9 @@ pub extern "C" fn eos_p_dpdrho(
     rho: f64,
     r: &mut [f64; 3],
 )
-    ensures { λ _. ⌜ now (r .exit) ≡ pressureRow (pDpdrho (blendOf n (now (tc .entry)) (now (a .entry)) (now (b .entry)) (now (kappa .entry)) (now («k_ij» .entry)) (now (x .entry))) t rho) ⌝ }
+    ensures { λ _. ⌜ now (r .exit) ≡ pressureRow (pDpdrho (blendBy n (now (tc .entry)) (now (a .entry)) (now (b .entry)) (now (kappa .entry)) (now («k_ij» .entry)) (now (x .entry))) t rho) ⌝ }
 {
-    let y = eos::p_dpdrho(blend(n, tc, a, b, kappa, k_ij, x), t, rho);
+    let y = eos::p_dpdrho(eos::blend(n, tc, a, b, kappa, k_ij, x), t, rho);
     *r = [y.p, y.dp_drho, y.d2p_drho2];
 }
 
@@ -197,9 +169,9 @@ pub extern "C" fn eos_p_dpdrho_d2pdrho2(
     rho: f64,
     r: &mut [f64; 3],
 )
-    ensures { λ _. ⌜ now (r .exit) ≡ pressureRow (pDpdrhoD2pdrho2 (blendOf n (now (tc .entry)) (now (a .entry)) (now (b .entry)) (now (kappa .entry)) (now («k_ij» .entry)) (now (x .entry))) t rho) ⌝ }
+    ensures { λ _. ⌜ now (r .exit) ≡ pressureRow (pDpdrhoD2pdrho2 (blendBy n (now (tc .entry)) (now (a .entry)) (now (b .entry)) (now (kappa .entry)) (now («k_ij» .entry)) (now (x .entry))) t rho) ⌝ }
 {
-    let y = eos::p_dpdrho_d2pdrho2(blend(n, tc, a, b, kappa, k_ij, x), t, rho);
+    let y = eos::p_dpdrho_d2pdrho2(eos::blend(n, tc, a, b, kappa, k_ij, x), t, rho);
     *r = [y.p, y.dp_drho, y.d2p_drho2];
 }
 
@@ -215,9 +187,9 @@ pub extern "C" fn eos_chemical_potential(
     t: f64,
     rho: f64,
 ) -> f64
-    ensures { λ r. ⌜ r ≡ chemicalPotential (blendOf n (now (tc .entry)) (now (a .entry)) (now (b .entry)) (now (kappa .entry)) (now («k_ij» .entry)) (now (x .entry))) t rho ⌝ }
+    ensures { λ r. ⌜ r ≡ chemicalPotential (blendBy n (now (tc .entry)) (now (a .entry)) (now (b .entry)) (now (kappa .entry)) (now («k_ij» .entry)) (now (x .entry))) t rho ⌝ }
 {
-    eos::chemical_potential(blend(n, tc, a, b, kappa, k_ij, x), t, rho)
+    eos::chemical_potential(eos::blend(n, tc, a, b, kappa, k_ij, x), t, rho)
 }
 
 #[no_mangle]
@@ -233,9 +205,9 @@ pub extern "C" fn eos_criticality_conditions(
     rho: f64,
     r: &mut [f64; 6],
 )
-    ensures { λ _. ⌜ now (r .exit) ≡ criticalityRow (criticalityConditions (blendOf n (now (tc .entry)) (now (a .entry)) (now (b .entry)) (now (kappa .entry)) (now («k_ij» .entry)) (now (x .entry))) t rho) ⌝ }
+    ensures { λ _. ⌜ now (r .exit) ≡ criticalityRow (criticalityConditions (blendBy n (now (tc .entry)) (now (a .entry)) (now (b .entry)) (now (kappa .entry)) (now («k_ij» .entry)) (now (x .entry))) t rho) ⌝ }
 {
-    let y = eos::criticality_conditions(blend(n, tc, a, b, kappa, k_ij, x), t, rho);
+    let y = eos::criticality_conditions(eos::blend(n, tc, a, b, kappa, k_ij, x), t, rho);
     *r = [y.l, y.c2, y.dl_dt, y.dl_drho, y.dc2_dt, y.dc2_drho];
 }
 
@@ -252,9 +224,9 @@ pub extern "C" fn eos_stability_condition(
     rho: f64,
     r: &mut [f64; 2],
 )
-    ensures { λ _. ⌜ now (r .exit) ≡ stabilityRow (stabilityCondition (blendOf n (now (tc .entry)) (now (a .entry)) (now (b .entry)) (now (kappa .entry)) (now («k_ij» .entry)) (now (x .entry))) t rho) ⌝ }
+    ensures { λ _. ⌜ now (r .exit) ≡ stabilityRow (stabilityCondition (blendBy n (now (tc .entry)) (now (a .entry)) (now (b .entry)) (now (kappa .entry)) (now («k_ij» .entry)) (now (x .entry))) t rho) ⌝ }
 {
-    let y = eos::stability_condition(blend(n, tc, a, b, kappa, k_ij, x), t, rho);
+    let y = eos::stability_condition(eos::blend(n, tc, a, b, kappa, k_ij, x), t, rho);
     *r = [y.f, y.df];
 }
 

@@ -1,6 +1,6 @@
 -- What the code of a quarter does, over plain values: its tickets, its slots, its jobs and its turns. Assumes nothing.
 use mathlib.Core.Path.{_≡_, refl, sym, ap, _∙_}
-use Prim.Native.Nat.{ℕ, suc, _+_, _-_, _*_, _%_, _^_, _≤_, _<_}
+use Prim.Native.Nat.{ℕ, zero, suc, _+_, _-_, _*_, _%_, _^_, _≤_, _<_}
 use mathlib.Core.Bool.{Bool, true, false, cond, not, _&&_}
 use mathlib.Core.List.{List}
 use native.Mathlib.Omega.{arith}
@@ -33,13 +33,20 @@ unfolding firstTicket
 ticket-below q a h r ea eh hr e = rw (← ea, ← eh) (below-by a h r (rw eh (numAt-lt 8 q heldAt)) hr e)
 
 -- the block of a slot is lent
-pub job-seen : (q : List ℕ) (slot kind n : ℕ) (job : Job) → slot ≡ firstSlot q → kind ≡ u64At q (128 + 16 * slot) → n ≡ u64At q (136 + 16 * slot)
-    → job ≡ view kind n (take (1024 + 640 * slot + 640 - (1024 + 640 * slot)) (drop (1024 + 640 * slot) q)) → job ≡ firstJob q
+job-seen : (q : List ℕ) (slot kind n : ℕ) → slot ≡ firstSlot q → kind ≡ u64At q (128 + 16 * slot) → n ≡ u64At q (136 + 16 * slot)
+    → view kind n (take (1024 + 640 * slot + 640 - (1024 + 640 * slot)) (drop (1024 + 640 * slot) q)) ≡ firstJob q
 unfolding firstJob
-job-seen q slot kind n job es ek en ej =
+job-seen q slot kind n es ek en =
     let k : 1024 + 640 * slot + 640 - (1024 + 640 * slot) ≡ 640 = omega arith in
     let lent = lent-part q (1024 + 640 * slot) (1024 + 640 * slot + 640 - (1024 + 640 * slot)) 640 k in
-    rw (ej, lent, ek, en, es)
+    rw (lent, ek, en, es)
+
+pub job-stepped : (q : List ℕ) (slot kind n : ℕ) (begun : Bool) (stored s : State) → slot ≡ firstSlot q → kind ≡ u64At q (128 + 16 * slot) → n ≡ u64At q (136 + 16 * slot)
+    → s
+    ≡ stepOf (view kind n (take (1024 + 640 * slot + 640 - (1024 + 640 * slot)) (drop (1024 + 640 * slot) q)))
+    (cond begun stored (startOf (view kind n (take (1024 + 640 * slot + 640 - (1024 + 640 * slot)) (drop (1024 + 640 * slot) q)))))
+    → s ≡ stepOf (firstJob q) (cond begun stored (startOf (firstJob q)))
+job-stepped q slot kind n begun stored s es ek en e = e ∙ rw (job-seen q slot kind n es ek en)
 
 -- ---- the slots of the jobs held, one after another
 
@@ -73,6 +80,23 @@ module _ (q : List ℕ) (ticket count i : ℕ) (w : Bool) (h : i < count) where
 pub slots-done : (q : List ℕ) (ticket count i : ℕ) (w : Bool) → count ≤ i → slotsFit q (ticket + i) (count - i) ≡ w → true ≡ w
 unfolding slotsFit
 slots-done q ticket count i w h e = let z : count - i ≡ 0 = omega arith in ap (slotsFit q (ticket + i)) (sym z) ∙ e
+
+-- where all eight slots fit, so do those of any jobs
+slot-of : (q : List ℕ) (t k i : ℕ) → i < k → slotsFit q t k ≡ true → slotFits q (slotOf (t + i)) ≡ true
+unfolding slotsFit
+slot-of q t zero i h e = absurd (omega arith)
+slot-of q t (suc k) zero h e = let z : t + 0 ≡ t = omega arith in rw z (left-true (slotFits q (slotOf t)) (slotsFit q (t + 1) k) e)
+slot-of q t (suc k) (suc i) h e =
+    let z : t + suc i ≡ t + 1 + i = omega arith in
+    rw z (slot-of q (t + 1) k i (omega arith) (right-true (slotFits q (slotOf t)) (slotsFit q (t + 1) k) e))
+
+slots-of : (q : List ℕ) → ((slot : ℕ) → slot < 8 → slotFits q slot ≡ true) → (t k : ℕ) → slotsFit q t k ≡ true
+unfolding slotsFit
+slots-of q f t zero = refl
+slots-of q f t (suc k) = let h : t % 8 < 8 = omega arith in rw (f (t % 8) h, slots-of q f (t + 1) k)
+
+pub eight-slots : (q : List ℕ) → slotsFit q 0 8 ≡ true → (ticket count : ℕ) → slotsFit q ticket count ≡ true
+eight-slots q e = slots-of q (λ slot h. let z : slotOf (0 + slot) ≡ slot = omega arith in rw z at (slot-of q 0 8 slot h e))
 
 -- ---- a job is added
 
@@ -144,13 +168,19 @@ held-some q held e n = omega arith
 
 -- ---- a turn
 
-pub state-first : (q : List ℕ) (job : Job) (turns : ℕ) (s : State) → job ≡ firstJob q → turns ≡ u64At q turnsAt → turns ≡ 0 → s ≡ startOf job → s ≡ stateOf q
-unfolding stateOf
-state-first q job turns s ej et z es = rw (← et, z, ← ej, ← es)
-
-pub state-later : (q : List ℕ) (turns : ℕ) (s : State) → turns ≡ u64At q turnsAt → (turns ≡ 0 → ⊥) → s ≡ loadState q → s ≡ stateOf q
+state-later : (q : List ℕ) (turns : ℕ) (s : State) → turns ≡ u64At q turnsAt → (turns ≡ 0 → ⊥) → s ≡ loadState q → s ≡ stateOf q
 unfolding stateOf
 state-later q turns s et n es = rw (← et, ne-eqb _ _ n, ← es)
+
+-- the step of a turn, from the stored state where the job has begun
+pub turn-steps : (q : List ℕ) (turns : ℕ) (begun : Bool) (stored s : State) → turns ≡ u64At q turnsAt → begun ≡ not (eqb turns 0) → stored ≡ loadState q
+    → s ≡ stepOf (firstJob q) (cond begun stored (startOf (firstJob q))) → s ≡ steppedOf q
+unfolding steppedOf stateOf
+turn-steps q turns begun stored s et eb es e = e ∙ ap (stepOf (firstJob q)) (rw (eb, es, et) (go (eqb (u64At q turnsAt) 0)))
+  where
+    go : (t : Bool) → cond (not t) (loadState q) (startOf (firstJob q)) ≡ cond t (startOf (firstJob q)) (loadState q)
+    go true = refl
+    go false = refl
 
 module _ (queue : ℕ) (q buffer : List ℕ) where
   -- what the code answers and leaves is what the definition does

@@ -1,11 +1,13 @@
 // The jobs that a quarter holds: the first one, and one that is added. A job stands in the slot of its ticket modulo 8.
 ghost use mathlib.Core.Path.{_≡_};
+ghost use mathlib.Core.Bool.{cond};
 ghost use Prim.Native.Nat.{_<_};
 ghost use lib.ListN.{length};
 ghost use Rattle.buf.specs.Bytes.{u64At};
 ghost use Rattle.board_spec.specs.Layout.{acceptedAt, heldAt};
+ghost use Rattle.stepping.specs.Stepping.{startOf, stepOf};
 ghost use Rattle.board_spec.specs.Quarter.{firstTicket, firstSlot, firstKind, firstJob, putJob, submitQuarter};
-use block::Job;
+use solver_state::State;
 
 // The ticket of the first job: as many below the next one's as jobs are held, modulo 2^64.
 pub fn first_ticket(q: &[u8]) -> u64
@@ -32,16 +34,17 @@ pub fn first_kind(q: &[u8]) -> u64
     buf::get_u64(q, 128 + 16 * slot)
 }
 
-pub fn first_job(q: &[u8]) -> Job
+// A step of the first job, from its first state or from a stored one.
+pub fn step_first(q: &[u8], begun: bool, stored: State) -> State
     requires { ⌜ length (now q) ≡ 6144 ⌝ }
-    ensures { λ r. ⌜ r ≡ firstJob (now (q .entry)) ⌝ }
+    ensures { λ r. ⌜ r ≡ stepOf (firstJob (now (q .entry))) (cond begun stored (startOf (firstJob (now (q .entry))))) ⌝ }
 {
     let slot = first_slot(q);
     let kind = buf::get_u64(q, 128 + 16 * slot);
     let n = buf::get_u64(q, 136 + 16 * slot);
     let from = 1024 + 640 * slot;
     let end = from + 640;
-    block::view(kind, n, &q[from..end])
+    stepping::step_request(kind, n, &q[from..end], begun, stored)
 }
 
 fn put_job(q: &mut [u8], slot: usize, kind: u64, n: u64, block: &[u8])

@@ -17,8 +17,8 @@ fn slot_fits(q: &[u8], slot: usize) -> bool
     schedule::count_fits(buf::get_u64(q, 136 + 16 * slot))
 }
 
-// The slots of so many jobs from this ticket on.
-fn slots_fit(q: &[u8], ticket: u64, count: u64) -> bool
+// The slots of so many jobs from this ticket on, one after another.
+fn each_slot_fits(q: &[u8], ticket: u64, count: u64) -> bool
     requires { ⌜ (length (now q) ≡ 6144) × (count ≤ 8) ⌝ }
     ensures { λ r. ⌜ r ≡ slotsFit (now (q .entry)) ticket count ⌝ }
 {
@@ -31,6 +31,18 @@ fn slots_fit(q: &[u8], ticket: u64, count: u64) -> bool
         i += 1;
     }
     true
+}
+
+// The same. All eight slots are tried first, also those of jobs that have left: a loop of eight without a start is made straight
+// code, and each call tests the slots of four queues.
+fn slots_fit(q: &[u8], ticket: u64, count: u64) -> bool
+    requires { ⌜ (length (now q) ≡ 6144) × (count ≤ 8) ⌝ }
+    ensures { λ r. ⌜ r ≡ slotsFit (now (q .entry)) ticket count ⌝ }
+{
+    if each_slot_fits(q, 0, 8) {
+        return true;
+    }
+    each_slot_fits(q, ticket, count)
 }
 
 // The running search, where the first job has had a turn.

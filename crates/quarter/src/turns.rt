@@ -8,34 +8,21 @@ ghost use lib.Dec.{eqb};
 ghost use Rattle.buf.specs.Bytes.{u64At};
 ghost use Rattle.board_spec.specs.Layout.{heldAt, turnsAt};
 ghost use Rattle.stepping.specs.Stepping.{atEnd};
-ghost use Rattle.board_spec.specs.Quarter.{firstJob, loadCounters, quarterFits, stateOf, steppedOf, keptQuarter, freedQuarter, turnQuarter};
-use crate::jobs::first_job;
+ghost use Rattle.board_spec.specs.Quarter.{loadCounters, quarterFits, steppedOf, keptQuarter, freedQuarter, turnQuarter};
 use crate::jobs::first_kind;
 use crate::jobs::first_ticket;
+use crate::jobs::step_first;
 use crate::state::load_counters;
 use crate::state::load_state;
 use crate::state::store_state;
-use block::Job;
 use solver_state::State;
-
-// The state that the turn's evaluation goes on from. The job is the first one, passed on so that its block is read once.
-fn state_of(q: &[u8], job: Job) -> State
-    requires { ⌜ (length (now q) ≡ 6144) × (job ≡ firstJob (now q)) ⌝ }
-    ensures { λ r. ⌜ r ≡ stateOf (now (q .entry)) ⌝ }
-{
-    if buf::get_u64(q, 16) == 0 {
-        return stepping::start(job);
-    }
-    load_state(q)
-}
 
 fn stepped(q: &[u8]) -> State
     requires { ⌜ length (now q) ≡ 6144 ⌝ }
     ensures { λ r. ⌜ r ≡ steppedOf (now (q .entry)) ⌝ }
 {
-    let job = first_job(q);
-    let state = state_of(q, job);
-    stepping::step(job, state)
+    let begun = buf::get_u64(q, 16) != 0;
+    step_first(q, begun, load_state(q))
 }
 
 // Whether the first job has had a turn and its search has ended.

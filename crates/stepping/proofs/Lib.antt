@@ -7,6 +7,7 @@ pub mod JobFloats
 pub mod Ends
 pub mod Sights
 pub mod Paths
+pub mod ReadSteps
 pub mod Still
 pub mod Refusals
 pub mod Kept

@@ -1,5 +1,7 @@
 // A job of a request block: its first state, one evaluation further, the range of a stored state, and its end.
 ghost use mathlib.Core.Path.{_≡_};
+ghost use mathlib.Core.Bool.{cond};
+ghost use Rattle.block.specs.View.{view};
 ghost use Rattle.solver.specs.Evaluated.{evaluated};
 ghost use Rattle.stepping.specs.Stepping.{workOf, refusedState, startBy, startOf, stepBy, stepOf, atEnd, dataRefusal, countersFit, resultOf};
 use crate::types::Ended;
@@ -130,6 +132,50 @@ pub fn step(job: Job, state: State) -> State
     let blend = job.blend;
     let task = job.task;
     step_by(blend, work(eos::compute_max_density(blend), task), state)
+}
+
+// The state that a job goes on from: the stored one, or its first where it has not begun.
+fn state_of(work: Work, begun: bool, stored: State) -> State
+    ensures { λ r. ⌜ r ≡ cond begun stored (startBy work) ⌝ }
+{
+    if begun {
+        return stored;
+    }
+    start_by(work)
+}
+
+// A step of a request's job, whose blend is made of its block in place and not handed through a `Job`.
+pub fn step_request(kind: u64, n: u64, block: &[u8], begun: bool, stored: State) -> State
+    ensures { λ r. ⌜ r ≡ stepOf (view kind n (now (block .entry))) (cond begun stored (startOf (view kind n (now (block .entry))))) ⌝ }
+{
+    let mut tc = [0.0; 8];
+    let mut a = [0.0; 8];
+    let mut b = [0.0; 8];
+    let mut kappa = [0.0; 8];
+    let mut k_ij = [0.0; 64];
+    let mut x = [0.0; 8];
+    let task = block::read(
+        kind,
+        n,
+        block,
+        &mut tc,
+        &mut a,
+        &mut b,
+        &mut kappa,
+        &mut k_ij,
+        &mut x,
+    );
+    let blend = eos::blend(
+        block::searched_count(kind, n),
+        &tc,
+        &a,
+        &b,
+        &kappa,
+        &k_ij,
+        &x,
+    );
+    let work = work(eos::compute_max_density(blend), task);
+    step_by(blend, work, state_of(work, begun, stored))
 }
 
 // Whether a search has ended, so that no step leads on.

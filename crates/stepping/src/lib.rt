@@ -11,5 +11,6 @@ pub use crate::jobs::counters_fit;
 pub use crate::jobs::result;
 pub use crate::jobs::start;
 pub use crate::jobs::step;
+pub use crate::jobs::step_request;
 pub use crate::types::Ended;
 pub use crate::types::Work;

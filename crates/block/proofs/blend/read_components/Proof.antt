@@ -1,5 +1,5 @@
 -- `block::blend::read_components` meets its contract. Assumes nothing.
-use mathlib.Core.Path.{_≡_, refl, ap}
+use mathlib.Core.Path.{_≡_, refl, sym, ap, _∙_}
 use Prim.Native.Nat.{ℕ, _+_, _-_, _*_, _≤_}
 use native.Mathlib.Omega.{arith}
 use mathlib.Core.Bool.{true}
@@ -44,37 +44,22 @@ mul-from c = search needs
 add-from : tie.Need-add-from Inv-loop μ-loop
 add-from c = search needs
 
-get-f64-requires : tie.Need-get-f64-requires Inv-loop μ-loop
-get-f64-requires c κs = search needs
-
-add-get-f64 : tie.Need-add-get-f64 Inv-loop μ-loop
-add-get-f64 c = search needs
-
-get-f64-requires-2 : tie.Need-get-f64-requires-2 Inv-loop μ-loop
-get-f64-requires-2 c κs = search needs
-
-add-get-f64-2 : tie.Need-add-get-f64-2 Inv-loop μ-loop
-add-get-f64-2 c = search needs
-
-get-f64-requires-3 : tie.Need-get-f64-requires-3 Inv-loop μ-loop
-get-f64-requires-3 c κs = search needs
-
 component-fits-requires : tie.Need-component-fits-requires Inv-loop μ-loop
 component-fits-requires c κs = search needs
 
 returns : tie.Need-returns Inv-loop μ-loop
 unfolding componentsFit
 returns c =
-    let P = c .before .before .before .before .before .before .before .before in
+    let P = c .before .before .before .before .before in
     let A = P .args in
-    let L = c .before .before .before .before .before .before .loop in
-    let h = c .before .before .before .before .before .loop-test .taken in
+    let L = c .before .before .before .loop in
+    let h = c .before .before .loop-test .taken in
     let row = floatsAt (3 * A .n) (A .block .now) (A .at) in
-    let e = component-numbers (A .n) (A .block .now) (A .at) (L .i) _ _ _ h (P .pre .0) (c .before .before .before .before .get-f64 .ensures) (c .before .before .before .get-f642 .ensures) (c .before .before .get-f643 .ensures) in
+    let e = component-numbers (A .n) (A .block .now) (A .at) (L .i) h (P .pre .0) in
     stopped (all-fails (componentTest row) (A .n) (L .i) h (component-tested row (L .i) _ _ _ _ _ e (c .before .component-fits .ensures) (not-true _ (c .if1 .taken))))
 
 component-requires : tie.Need-component-requires Inv-loop μ-loop
-component-requires c κs = search needs
+component-requires c κs = (search needs, sym (c .before .component-fits .ensures) ∙ not-false _ (c .if1 .left))
 
 mul-tc : tie.Need-mul-tc Inv-loop μ-loop
 mul-tc c = search needs
@@ -108,12 +93,12 @@ loop-less c = search needs
 
 loop-again : tie.Need-loop-again Inv-loop μ-loop
 loop-again c =
-    let P = c .before .before .before .before .before .before .before .before .before in
+    let P = c .before .before .before .before .before .before in
     let A = P .args in
-    let L = c .before .before .before .before .before .before .before .loop in
-    let h = c .before .before .before .before .before .before .loop-test .taken in
+    let L = c .before .before .before .before .loop in
+    let h = c .before .before .before .loop-test .taken in
     let row = floatsAt (3 * A .n) (A .block .now) (A .at) in
-    let e = component-numbers (A .n) (A .block .now) (A .at) (L .i) _ _ _ h (P .pre .0) (c .before .before .before .before .before .get-f64 .ensures) (c .before .before .before .before .get-f642 .ensures) (c .before .before .before .get-f643 .ensures) in
+    let e = component-numbers (A .n) (A .block .now) (A .at) (L .i) h (P .pre .0) in
     let m = component-made row (L .i) _ _ _ _ e (c .component .ensures) in (
       omega arith,
       (
@@ -156,11 +141,6 @@ read-components-spec =
     loop-holds
     mul-from
     add-from
-    get-f64-requires
-    add-get-f64
-    get-f64-requires-2
-    add-get-f64-2
-    get-f64-requires-3
     component-fits-requires
     returns
     component-requires

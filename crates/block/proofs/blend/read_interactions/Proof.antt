@@ -54,42 +54,46 @@ loop2-holds c =
     let L = c .before .loop in
     (omega arith, (omega arith, (place-first (A .n) (L .i) (L .place) (L .inv .1 .0), (L .inv .1 .1 .0, row-begins (A .n) (rowOf (A .n) (A .block .now) (A .at)) _ (L .i) (omega arith) (L .inv .1 .1 .1)))))
 
-mul-get-f64 : tie.Need-mul-get-f64 Inv-loop2 μ-loop2 Inv-loop μ-loop
-mul-get-f64 c =
+mul-from : tie.Need-mul-from Inv-loop2 μ-loop2 Inv-loop μ-loop
+mul-from c =
     let A = c .before .before .before .before .before .args in
     let L = c .before .loop2 in
     let i = c .before .before .before .loop .i in
     omega (arith, place-below (A .n) i (L .j) (L .inv .0) (c .loop2-test .taken))
 
-add-get-f64 : tie.Need-add-get-f64 Inv-loop2 μ-loop2 Inv-loop μ-loop
-add-get-f64 c =
+add-from : tie.Need-add-from Inv-loop2 μ-loop2 Inv-loop μ-loop
+add-from c =
     let A = c .before .before .before .before .before .args in
     let L = c .before .loop2 in
     let i = c .before .before .before .loop .i in
     omega (arith, place-below (A .n) i (L .j) (L .inv .0) (c .loop2-test .taken))
 
-get-f64-requires : tie.Need-get-f64-requires Inv-loop2 μ-loop2 Inv-loop μ-loop
-get-f64-requires c κs =
+is-finite-at-requires : tie.Need-is-finite-at-requires Inv-loop2 μ-loop2 Inv-loop μ-loop
+is-finite-at-requires c κs =
     let A = c .before .before .before .before .before .args in
     let L = c .before .loop2 in
     let i = c .before .before .before .loop .i in
     omega (arith, place-below (A .n) i (L .j) (L .inv .0) (c .loop2-test .taken))
-
-is-finite-requires : tie.Need-is-finite-requires Inv-loop2 μ-loop2 Inv-loop μ-loop
-is-finite-requires c κs = search needs
 
 returns : tie.Need-returns Inv-loop2 μ-loop2 Inv-loop μ-loop
 unfolding interactionsFit
 returns c =
-    let A = c .before .before .before .before .before .before .before .before .args in
-    let L = c .before .before .before .before .loop2 in
-    let i = c .before .before .before .before .before .before .loop .i in
+    let A = c .before .before .before .before .before .before .before .args in
+    let L = c .before .before .before .loop2 in
+    let i = c .before .before .before .before .before .loop .i in
     let row = rowOf (A .n) (A .block .now) (A .at) in
-    let h : L .j < A .n = c .before .before .before .loop2-test .taken in
-    let r = interaction-read (A .n) (A .block .now) (A .at) i (L .j) (L .place) _ (omega arith) (L .inv .0) h (L .inv .1 .1 .0) (c .before .before .get-f64 .ensures) in
+    let h : L .j < A .n = c .before .before .loop2-test .taken in
+    let r = interaction-read (A .n) (A .block .now) (A .at) i (L .j) (L .place) (omega arith) (L .inv .0) h (L .inv .1 .1 .0) in
     stopped
     (all-fails (interactionTest row) _ (L .place) (omega (arith, place-below (A .n) i (L .j) (L .inv .0) h))
-    (ap finiteOf (sym r) ∙ sym (c .before .is-finite .ensures) ∙ not-true _ (c .if1 .taken)))
+    (ap finiteOf (sym r) ∙ sym (c .before .is-finite-at .ensures) ∙ not-true _ (c .if1 .taken)))
+
+get-finite-requires : tie.Need-get-finite-requires Inv-loop2 μ-loop2 Inv-loop μ-loop
+get-finite-requires c κs =
+    let A = c .before .before .before .before .before .before .before .args in
+    let L = c .before .before .before .loop2 in
+    let i = c .before .before .before .before .before .loop .i in
+    (omega (arith, place-below (A .n) i (L .j) (L .inv .0) (c .before .before .loop2-test .taken)), sym (c .before .is-finite-at .ensures) ∙ not-false _ (c .if1 .left))
 
 mul-k-ij : tie.Need-mul-k-ij Inv-loop2 μ-loop2 Inv-loop μ-loop
 mul-k-ij c = search needs
@@ -135,7 +139,7 @@ loop2-again c =
     let i = c .before .before .before .before .before .before .loop .i in
     let row = rowOf (A .n) (A .block .now) (A .at) in
     let h : L .j < A .n = c .before .before .before .loop2-test .taken in
-    let r = interaction-read (A .n) (A .block .now) (A .at) i (L .j) (L .place) _ (omega arith) (L .inv .0) h (L .inv .1 .1 .0) (c .before .before .get-f64 .ensures) in
+    let r = interaction-read (A .n) (A .block .now) (A .at) i (L .j) (L .place) (omega arith) (L .inv .0) h (L .inv .1 .1 .0) in
     let e = L .inv .1 .1 .0 in (
       omega arith,
       (
@@ -143,8 +147,8 @@ loop2-again c =
         (
           place-next (A .n) i (L .j) (L .place) (L .inv .0) e,
           (
-            all-more (interactionTest row) (L .place) (L .inv .1 .1 .1 .0) (ap finiteOf (sym r) ∙ sym (c .before .is-finite .ensures) ∙ not-false _ (c .if1 .left)),
-            matrix-more (A .n) row (L .k-ij) i (L .j) _ (L .inv .0) h (omega arith) (r ∙ ap (atRow row) e) (L .inv .1 .1 .1 .1),
+            all-more (interactionTest row) (L .place) (L .inv .1 .1 .1 .0) (ap finiteOf (sym r) ∙ sym (c .before .before .is-finite-at .ensures) ∙ not-false _ (c .before .if1 .left)),
+            matrix-more (A .n) row (L .k-ij) i (L .j) _ (L .inv .0) h (omega arith) (c .get-finite .ensures ∙ r ∙ ap (atRow row) e) (L .inv .1 .1 .1 .1),
           ),
         ),
       ),
@@ -185,11 +189,11 @@ read-interactions-spec =
     loop-holds
     add-j
     loop2-holds
-    mul-get-f64
-    add-get-f64
-    get-f64-requires
-    is-finite-requires
+    mul-from
+    add-from
+    is-finite-at-requires
     returns
+    get-finite-requires
     mul-k-ij
     add-k-ij
     mul-k-ij-2

@@ -1,6 +1,7 @@
 -- `block::reader::ready` meets its contract. Assumes nothing.
-use borrow.Author.Needs.{needs}
 use borrow.Author.Tests.{not-false, not-true}
+use Rattle.block.specs.View.{refused}
+use borrow.Author.Needs.{needs}
 use Rattle.block.proofs.reader.ready.Statement.{statement}
 use Rattle.block.proofs.reader.ready.Tie as tie
 
@@ -10,16 +11,12 @@ compute-max-density-requires c κs = search needs
 positive-requires : tie.Need-positive-requires
 positive-requires c κs = search needs
 
-refused-requires : tie.Need-refused-requires
-refused-requires c κs = search needs
-
 returns : tie.Need-returns
-returns c = simp (← c .before .before .before .compute-max-density .ensures, ← c .before .before .positive .ensures, not-true (c .before .before .positive .result) (c .before .if1 .taken), ← c .refused .ensures)
+unfolding refused
+returns c = rw (← c .before .before .compute-max-density .ensures, ← c .before .positive .ensures, not-true (c .before .positive .result) (c .if1 .taken))
 
 returns-2 : tie.Need-returns-2
-returns-2 c = simp (← c .before .before .compute-max-density .ensures, ← c .before .positive .ensures, not-false (c .before .positive .result) (c .if1 .left))
+returns-2 c = rw (← c .before .before .compute-max-density .ensures, ← c .before .positive .ensures, not-false (c .before .positive .result) (c .if1 .left))
 
 pub ready-spec : {M : Type 1} → statement M
-ready-spec =
-    tie.close
-    (tie.spec compute-max-density-requires positive-requires refused-requires returns returns-2)
+ready-spec = tie.close (tie.spec compute-max-density-requires positive-requires returns returns-2)

@@ -1,70 +1,41 @@
 -- `block::reader::view` meets its contract. Assumes nothing.
 use mathlib.Core.Path.{sym, _∙_}
+use Rattle.block.proofs.ViewLaws.{view-searches, view-refused, searches-left}
 use borrow.Author.Needs.{needs}
-use borrow.Author.Tests.{eq-eqb, ne-eqb, not-false, not-true}
-use Rattle.schedule.proofs.Tests.{count-within}
-use Rattle.block.specs.View.{view}
 use Rattle.block.proofs.reader.view.Statement.{statement}
 use Rattle.block.proofs.reader.view.Tie as tie
 
-kind-fits-requires : tie.Need-kind-fits-requires
-kind-fits-requires c κs = search needs
+read-requires : tie.Need-read-requires
+read-requires c κs = search needs
+
+enum-known-task : tie.Need-enum-known-task
+enum-known-task c = search needs
+
+searched-count-requires : tie.Need-searched-count-requires
+searched-count-requires c κs = search needs
+
+blend-requires : tie.Need-blend-requires
+blend-requires c κs = search needs
+
+returns : tie.Need-returns
+returns c =
+    let r = c .before .before .before .before .before .before .before .before .before .read .ensures in
+    view-searches _ _ _ _ _ _ (r .0) (r .1 (searches-left _ (c .before .before .before .before .before .before .before .before .match .keys2))) (rw (c .before .before .before .before .before .before .before .searched-count .ensures) at (c .blend .ensures))
 
 refused-requires : tie.Need-refused-requires
 refused-requires c κs = search needs
 
-returns : tie.Need-returns
-unfolding view
-returns c = simp (sym (c .before .before .kind-fits .ensures) ∙ not-true _ (c .before .if1 .taken), ← c .refused .ensures)
-
-count-fits-requires : tie.Need-count-fits-requires
-count-fits-requires c κs = search needs
-
-refused-requires-2 : tie.Need-refused-requires-2
-refused-requires-2 c κs = search needs
-
 returns-2 : tie.Need-returns-2
-unfolding view
-returns-2 c = simp (sym (c .before .before .before .before .kind-fits .ensures) ∙ not-false _ (c .before .before .before .if1 .left), sym (c .before .before .count-fits .ensures) ∙ not-true _ (c .before .if2 .taken), ← c .refused2 .ensures)
-
-refused-requires-3 : tie.Need-refused-requires-3
-refused-requires-3 c κs = search needs
-
-returns-3 : tie.Need-returns-3
-unfolding view
-returns-3 c = simp (sym (c .before .before .before .before .before .kind-fits .ensures) ∙ not-false _ (c .before .before .before .before .if1 .left), sym (c .before .before .before .count-fits .ensures) ∙ not-false _ (c .before .before .if2 .left), ne-eqb _ _ (c .before .if3 .taken), ← c .refused3 .ensures)
-
-pairs-fit-requires : tie.Need-pairs-fit-requires
-pairs-fit-requires c κs = let w = count-within _ (sym (c .before .before .count-fits .ensures) ∙ not-false _ (c .before .if2 .left)) in (w .low, w .high, c .if3 .left)
-
-refused-requires-4 : tie.Need-refused-requires-4
-refused-requires-4 c κs = search needs
-
-returns-4 : tie.Need-returns-4
-unfolding view
-returns-4 c = simp (sym (c .before .before .before .before .before .before .before .kind-fits .ensures) ∙ not-false _ (c .before .before .before .before .before .before .if1 .left), sym (c .before .before .before .before .before .count-fits .ensures) ∙ not-false _ (c .before .before .before .before .if2 .left), eq-eqb _ _ (c .before .before .before .if3 .left), sym (c .before .before .pairs-fit .ensures) ∙ not-true _ (c .before .if4 .taken), ← c .refused4 .ensures)
-
-checked-requires : tie.Need-checked-requires
-checked-requires c κs = let w = count-within _ (sym (c .before .before .before .before .count-fits .ensures) ∙ not-false _ (c .before .before .before .if2 .left)) in (w .low, w .high, c .before .before .if3 .left, sym (c .before .pairs-fit .ensures) ∙ not-false _ (c .if4 .left))
-
-returns-5 : tie.Need-returns-5
-unfolding view
-returns-5 c = simp (sym (c .before .before .before .before .before .before .before .kind-fits .ensures) ∙ not-false _ (c .before .before .before .before .before .before .if1 .left), sym (c .before .before .before .before .before .count-fits .ensures) ∙ not-false _ (c .before .before .before .before .if2 .left), eq-eqb _ _ (c .before .before .before .if3 .left), sym (c .before .before .pairs-fit .ensures) ∙ not-false _ (c .before .if4 .left), ← c .checked .ensures)
+returns-2 c = c .refused .ensures ∙ view-refused _ _ _ _ (sym (c .before .before .task .given .1) ∙ c .before .before .before .before .read .ensures .0)
 
 pub view-spec : {M : Type 1} → statement M
 view-spec =
     tie.close
     (tie.spec
-    kind-fits-requires
-    refused-requires
+    read-requires
+    enum-known-task
+    searched-count-requires
+    blend-requires
     returns
-    count-fits-requires
-    refused-requires-2
-    returns-2
-    refused-requires-3
-    returns-3
-    pairs-fit-requires
-    refused-requires-4
-    returns-4
-    checked-requires
-    returns-5)
+    refused-requires
+    returns-2)

@@ -1,21 +1,21 @@
 -- `quarter::turns::stepped` meets its contract. Assumes nothing.
+use mathlib.Core.Path.{refl}
 use borrow.Author.Needs.{needs}
-use Rattle.board_spec.specs.Quarter.{steppedOf}
+use Rattle.quarter.proofs.QuarterLaws.{turn-steps}
 use Rattle.quarter.proofs.turns.stepped.Statement.{statement}
 use Rattle.quarter.proofs.turns.stepped.Tie as tie
 
-first-job-requires : tie.Need-first-job-requires
-first-job-requires c κs = search needs
+get-u64-requires : tie.Need-get-u64-requires
+get-u64-requires c κs = search needs
 
-state-of-requires : tie.Need-state-of-requires
-state-of-requires c κs = search needs
+load-state-requires : tie.Need-load-state-requires
+load-state-requires c κs = search needs
 
-step-requires : tie.Need-step-requires
-step-requires c κs = search needs
+step-first-requires : tie.Need-step-first-requires
+step-first-requires c κs = search needs
 
 returns : tie.Need-returns
-unfolding steppedOf
-returns c = rw (← c .before .before .first-job .ensures, ← c .before .state-of .ensures, ← c .step .ensures)
+returns c = turn-steps _ _ _ _ _ (c .before .before .get-u64 .ensures) refl (c .before .load-state .ensures) (c .step-first .ensures)
 
 pub stepped-spec : {M : Type 1} → statement M
-stepped-spec = tie.close (tie.spec first-job-requires state-of-requires step-requires returns)
+stepped-spec = tie.close (tie.spec get-u64-requires load-state-requires step-first-requires returns)
