@@ -3,4 +3,3 @@ pub mod Jets
 pub mod Cubic
 pub mod Residual
 pub mod Critical
-pub mod Linear

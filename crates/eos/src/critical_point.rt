@@ -16,7 +16,7 @@ use jet::Jet;
 fn volume(density: f64) -> Jet
     ensures { λ r. ⌜ Upto 12 (r .c) (recipOf (markedOf 8 density)) ⌝ }
 {
-    jet::div_12(jet::number(1.0), jet::marked(8, density))
+    jet_twelve::div_12(jet::number(1.0), jet::marked(8, density))
 }
 
 fn energy_over_t(blend: Blend, t: Jet, v: Jet, n: Jet) -> Jet
@@ -24,7 +24,7 @@ fn energy_over_t(blend: Blend, t: Jet, v: Jet, n: Jet) -> Jet
 {
     let moles = [n; 8];
     let a = helmholtz(1, blend, t, v, moles);
-    jet::div_12(a, t)
+    jet_twelve::div_12(a, t)
 }
 
 // e is the energy over t with the mole number marked, here and below.
@@ -40,9 +40,9 @@ fn eigenvalue(blend: Blend, t: Jet, v: Jet, z: f64, e: Jet) -> Jet
     requires { ⌜ Upto 12 (e .c) (energyOverT blend (t .c) (v .c) (markedOf 1 z)) ⌝ }
     ensures { λ r. ⌜ Upto 9 (r .c) (eigenvalueOf blend (t .c) (v .c) z) ⌝ }
 {
-    let sqrt_z = jet::sqrt_12(jet::number(z));
-    let z_mix = jet::mul_12(sqrt_z, sqrt_z);
-    let m = jet::mul_12(dmu_dn(blend, t, v, z, e), z_mix);
+    let sqrt_z = jet_twelve::sqrt_12(jet::number(z));
+    let z_mix = jet_twelve::mul_12(sqrt_z, sqrt_z);
+    let m = jet_twelve::mul_12(dmu_dn(blend, t, v, z, e), z_mix);
     jet::add(m, jet::number(1.0))
 }
 
@@ -70,10 +70,10 @@ fn ideal_gas(n: Jet, v: Jet) -> Jet
 {
     let c = n.c;
     if c[0] == 0.0 {
-        return jet::mul_12(n, jet::number(0.0));
+        return jet_twelve::mul_12(n, jet::number(0.0));
     }
-    let l = jet::ln_12(jet::div_12(n, v));
-    jet::mul_12(n, jet::sub(l, jet::number(1.0)))
+    let l = jet_twelve::ln_12(jet_twelve::div_12(n, v));
+    jet_twelve::mul_12(n, jet::sub(l, jet::number(1.0)))
 }
 
 // The energy at the moved mole number n, which is e where that is the marked one.

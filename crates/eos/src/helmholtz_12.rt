@@ -25,10 +25,10 @@ fn ak(t: Jet, tc: f64, kappa: f64, a: f64) -> Jet
     ensures { λ r. ⌜ Upto 12 (r .c) (akOf (t .c) tc kappa a) ⌝ }
 {
     let one = jet::number(1.0);
-    let q = jet::div_12(t, jet::number(tc));
-    let d = jet::sub(one, jet::sqrt_12(q));
-    let y = jet::add(jet::mul_12(d, jet::number(kappa)), one);
-    jet::mul_12(jet::mul_12(y, y), jet::number(a))
+    let q = jet_twelve::div_12(t, jet::number(tc));
+    let d = jet::sub(one, jet_twelve::sqrt_12(q));
+    let y = jet::add(jet_twelve::mul_12(d, jet::number(kappa)), one);
+    jet_twelve::mul_12(jet_twelve::mul_12(y, y), jet::number(a))
 }
 
 // ak of the first n components.
@@ -54,11 +54,11 @@ fn mix_term(root: f64, ai: Jet, aj: Jet, xi: Jet, xj: Jet, k: f64) -> Jet
     requires { ⌜ root ≡ rootOf (at (ai .c) 0 ⊗ at (aj .c) 0) ⌝ }
     ensures { λ r. ⌜ Upto 12 (r .c) (mixTerm (ai .c) (aj .c) (xi .c) (xj .c) k) ⌝ }
 {
-    let product = jet::mul_12(ai, aj);
-    let x = jet::mul_12(xi, xj);
-    jet::mul_12(
-        jet::sqrt_12_from(root, product),
-        jet::mul_12(x, jet::number(1.0 - k)),
+    let product = jet_twelve::mul_12(ai, aj);
+    let x = jet_twelve::mul_12(xi, xj);
+    jet_twelve::mul_12(
+        jet_twelve::sqrt_12_from(root, product),
+        jet_twelve::mul_12(x, jet::number(1.0 - k)),
     )
 }
 
@@ -97,10 +97,10 @@ fn b_mix(n: usize, x: [Jet; 8], b: &[f64; 8]) -> Jet
     requires { ⌜ (1 ≤ n) × (n ≤ 8) ⌝ }
     ensures { λ r. ⌜ Upto 12 (r .c) (bMix n (jetAt x) (nth (now (b .entry)))) ⌝ }
 {
-    let mut m = jet::mul_12(x[0], jet::number(b[0]));
+    let mut m = jet_twelve::mul_12(x[0], jet::number(b[0]));
     let mut i: usize = 1;
     while i < n {
-        m = jet::add(m, jet::mul_12(x[i], jet::number(b[i])));
+        m = jet::add(m, jet_twelve::mul_12(x[i], jet::number(b[i])));
         i += 1;
     }
     m
@@ -109,32 +109,32 @@ fn b_mix(n: usize, x: [Jet; 8], b: &[f64; 8]) -> Jet
 fn repulsive(v: Jet, b: Jet) -> Jet
     ensures { λ r. ⌜ Upto 12 (r .c) (repulsion (v .c) (b .c)) ⌝ }
 {
-    jet::ln_12(jet::div_12(v, jet::sub(v, b)))
+    jet_twelve::ln_12(jet_twelve::div_12(v, jet::sub(v, b)))
 }
 
 fn log_ratio(v: Jet, b: Jet) -> Jet
     ensures { λ r. ⌜ Upto 12 (r .c) (logRatio (v .c) (b .c)) ⌝ }
 {
-    let upper = jet::add(v, jet::mul_12(b, jet::number(1.0 + SQRT_2)));
-    let lower = jet::add(v, jet::mul_12(b, jet::number(1.0 - SQRT_2)));
-    jet::ln_12(jet::div_12(upper, lower))
+    let upper = jet::add(v, jet_twelve::mul_12(b, jet::number(1.0 + SQRT_2)));
+    let lower = jet::add(v, jet_twelve::mul_12(b, jet::number(1.0 - SQRT_2)));
+    jet_twelve::ln_12(jet_twelve::div_12(upper, lower))
 }
 
 fn attractive(ak: Jet, b: Jet, t: Jet, v: Jet) -> Jet
     ensures { λ r. ⌜ Upto 12 (r .c) (attraction (ak .c) (b .c) (t .c) (v .c)) ⌝ }
 {
-    let b2 = jet::mul_12(jet::mul_12(b, jet::number(SQRT_2)), jet::number(2.0));
-    let q = jet::div_12(ak, jet::mul_12(b2, t));
-    jet::mul_12(q, log_ratio(v, b))
+    let b2 = jet_twelve::mul_12(jet_twelve::mul_12(b, jet::number(SQRT_2)), jet::number(2.0));
+    let q = jet_twelve::div_12(ak, jet_twelve::mul_12(b2, t));
+    jet_twelve::mul_12(q, log_ratio(v, b))
 }
 
 // The reduced Helmholtz energy density of `for_each_contribution`.
 fn contribute(density: Jet, ak: Jet, b: Jet, t: Jet) -> Jet
     ensures { λ r. ⌜ Upto 12 (r .c) (contribution (density .c) (ak .c) (b .c) (t .c)) ⌝ }
 {
-    let v = jet::div_12(jet::number(1.0), density);
+    let v = jet_twelve::div_12(jet::number(1.0), density);
     let d = jet::sub(repulsive(v, b), attractive(ak, b, t, v));
-    jet::mul_12(density, d)
+    jet_twelve::mul_12(density, d)
 }
 
 // The first n of a, each over d.
@@ -146,7 +146,7 @@ fn over(n: usize, a: [Jet; 8], d: Jet) -> [Jet; 8]
     let mut out = [zero; 8];
     let mut i: usize = 0;
     while i < n {
-        out[i] = jet::div_12(a[i], d);
+        out[i] = jet_twelve::div_12(a[i], d);
         i += 1;
     }
     out
@@ -161,15 +161,15 @@ fn alone(blend: Blend, t: Jet, v: Jet, moles: Jet) -> Mixture
     let a = blend.a;
     let k = blend.k_ij;
     let b = blend.b;
-    let density = jet::div_12(moles, v);
-    let x = jet::div_12(density, density);
+    let density = jet_twelve::div_12(moles, v);
+    let x = jet_twelve::div_12(density, density);
     let one = ak(t, tc[0], kappa[0], a[0]);
     let root = float::sqrt(one.c[0] * one.c[0]);
     let term = mix_term(root, one, one, x, x, k[0]);
     Mixture {
         density,
         a: jet::add(jet::number(0.0), term),
-        b: jet::mul_12(x, jet::number(b[0])),
+        b: jet_twelve::mul_12(x, jet::number(b[0])),
     }
 }
 
@@ -212,5 +212,5 @@ pub fn helmholtz(n: usize, blend: Blend, t: Jet, v: Jet, moles: [Jet; 8]) -> Jet
     let a = m.a;
     let b = m.b;
     let e = jet::add(jet::number(0.0), contribute(density, a, b, t));
-    jet::mul_12(jet::mul_12(e, t), v)
+    jet_twelve::mul_12(jet_twelve::mul_12(e, t), v)
 }

@@ -49,9 +49,3 @@ pub struct Stability {
     pub f: f64,
     pub df: f64,
 }
-
-// The unknowns of a 2 by 2 system, or document 01's refusal 23.
-pub enum Solved {
-    Delta(f64, f64),
-    ZeroPivot,
-}

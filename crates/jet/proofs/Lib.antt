@@ -10,4 +10,3 @@ pub mod ByE0
 pub mod Depends
 pub mod Prefix
 pub mod UptoFour
-pub mod UptoTwelve

@@ -5,7 +5,6 @@ mod four;
 mod functions;
 mod pairs;
 mod terms;
-mod twelve;
 
 pub use crate::arith::add;
 pub use crate::arith::coefficient;
@@ -29,11 +28,6 @@ pub use crate::functions::ln;
 pub use crate::functions::ln_to;
 pub use crate::functions::sqrt;
 pub use crate::functions::sqrt_to;
-pub use crate::twelve::div_12;
-pub use crate::twelve::ln_12;
-pub use crate::twelve::mul_12;
-pub use crate::twelve::sqrt_12;
-pub use crate::twelve::sqrt_12_from;
 
 // The coefficients, of e0^i e1^j e2^k at position i + 4j + 8k.
 pub struct Jet {

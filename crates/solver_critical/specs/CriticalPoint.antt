@@ -7,9 +7,9 @@ use lib.Ieee.{Float, lt}
 use Rattle.float.specs.Ops.{_⊖_, _⊗_, _⊘_, f0}
 use Rattle.float.specs.Sign.{absOf, maxOf}
 use Rattle.eos.specs.declared.types.Criticality.{Criticality}
-use Rattle.eos.specs.declared.types.Solved.{Solved}
-use Rattle.eos.specs.declared.types.Solved.the-variants.{Delta, ZeroPivot}
-use Rattle.eos.specs.Linear.{solve2, normOf}
+use Rattle.linear.specs.declared.types.Solved.{Solved}
+use Rattle.linear.specs.declared.types.Solved.the-variants.{Delta, ZeroPivot}
+use Rattle.linear.specs.Linear.{solve2, normOf}
 use Rattle.solver.specs.Decimals.{d0·25, d0·03, d0·3, d1e-4, d1e-8, d300, d500, d700}
 use Rattle.solver.specs.declared.types.Refusal.the-variants.{NotConverged, IterationFailed}
 use Rattle.solver.specs.declared.types.Answer.{Answer}

@@ -4,8 +4,8 @@ use lib.Ieee.{Float, lt}
 use Rattle.float.specs.Sign.{absOf, finiteOf}
 use Rattle.eos.specs.declared.types.Criticality.{Criticality}
 use Rattle.eos.specs.declared.types.Stability.{Stability}
-use Rattle.eos.specs.declared.types.Solved.{Solved}
-use Rattle.eos.specs.declared.types.Solved.the-variants.{Delta, ZeroPivot}
+use Rattle.linear.specs.declared.types.Solved.{Solved}
+use Rattle.linear.specs.declared.types.Solved.the-variants.{Delta, ZeroPivot}
 use Rattle.solver.specs.Decimals.{d1e-8}
 use Rattle.solver.specs.declared.types.Refusal.the-variants.{IterationFailed, NotFinite}
 use Rattle.solver.specs.declared.types.Answer.the-variants.{Refused}

@@ -11,7 +11,7 @@ use crate::types::Point;
 use crate::types::Start;
 use eos::Blend;
 use eos::Criticality;
-use eos::Solved;
+use linear::Solved;
 use solver::Answer;
 use solver::Ran;
 use solver::Refusal;
@@ -96,14 +96,14 @@ fn all_finite(y: Criticality) -> bool
 fn has_converged(y: Criticality) -> bool
     ensures { λ r. ⌜ r ≡ converged y ⌝ }
 {
-    eos::norm(y.l, y.c2) < 1e-8
+    linear::norm(y.l, y.c2) < 1e-8
 }
 
 fn solved(y: Criticality) -> Solved
     ensures { λ r. ⌜ r ≡ solvedOf y ⌝ }
 {
     let jacobian = [[y.dl_dt, y.dl_drho], [y.dc2_dt, y.dc2_drho]];
-    eos::solve(jacobian, [y.l, y.c2])
+    linear::solve(jacobian, [y.l, y.c2])
 }
 
 // where a step that leads to p goes on

@@ -11,8 +11,8 @@ use Rattle.float.specs.Ops.{_⊗_, f0}
 use Rattle.float.specs.Sign.{maxOf, absOf, finiteOf}
 use Rattle.eos.specs.declared.types.Criticality.{Criticality}
 use Rattle.eos.specs.declared.types.Stability.{Stability}
-use Rattle.eos.specs.declared.types.Solved.{Solved}
-use Rattle.eos.specs.declared.types.Solved.the-variants.{Delta, ZeroPivot}
+use Rattle.linear.specs.declared.types.Solved.{Solved}
+use Rattle.linear.specs.declared.types.Solved.the-variants.{Delta, ZeroPivot}
 use Rattle.solver.specs.Decimals.{d1e-4, d1e-5, d1e-8}
 use Rattle.solver.specs.declared.types.Answer.{Answer}
 use Rattle.solver.specs.declared.types.Answer.the-variants.{Found, Refused}

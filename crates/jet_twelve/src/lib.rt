@@ -5,8 +5,8 @@ ghost use mathlib.Core.List.{_∷_};
 ghost use lib.ListN.{replicate};
 ghost use Rattle.float.specs.Ops.{f0};
 ghost use Rattle.float.specs.Root.{root};
 ghost use Rattle.jet.specs.Coefficients.{at, productOf, quotientOf, rootOf, logarithmOf, cut};
-use crate::Jet;
+use jet::Jet;
 
 // The jet with these twelve coefficients, and +0 at the other positions.
 fn linear(

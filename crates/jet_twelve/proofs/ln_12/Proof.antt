@@ -1,9 +1,9 @@
--- `jet::twelve::ln_12` meets its contract. Assumes nothing.
+-- `jet_twelve::ln_12` meets its contract. Assumes nothing.
 use mathlib.Core.Path.{sym, _∙_}
-use Rattle.jet.proofs.UptoTwelve.{logarithm-linear}
+use Rattle.jet_twelve.proofs.UptoTwelve.{logarithm-linear}
 use borrow.Author.Needs.{needs}
-use Rattle.jet.proofs.twelve.ln_12.Statement.{statement}
-use Rattle.jet.proofs.twelve.ln_12.Tie as tie
+use Rattle.jet_twelve.proofs.ln_12.Statement.{statement}
+use Rattle.jet_twelve.proofs.ln_12.Tie as tie
 
 element-copy-out-x0 : tie.Need-element-copy-out-x0
 element-copy-out-x0 c = search needs

@@ -1,8 +1,8 @@
--- `eos::linear::solve` meets its contract. Assumes nothing.
-use Rattle.eos.proofs.Rows2.{swapped-law, kept-law}
+-- `linear::systems::solve` meets its contract. Assumes nothing.
+use Rattle.linear.proofs.Rows2.{swapped-law, kept-law}
 use borrow.Author.Needs.{needs}
-use Rattle.eos.proofs.linear.solve.Statement.{statement}
-use Rattle.eos.proofs.linear.solve.Tie as tie
+use Rattle.linear.proofs.systems.solve.Statement.{statement}
+use Rattle.linear.proofs.systems.solve.Tie as tie
 
 index-1-abs : tie.Need-index-1-abs
 index-1-abs c = search needs

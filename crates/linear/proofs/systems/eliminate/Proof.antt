@@ -1,7 +1,7 @@
--- `eos::linear::eliminate` meets its contract. Assumes nothing.
-use Rattle.eos.specs.Linear.{eliminated}
-use Rattle.eos.proofs.linear.eliminate.Statement.{statement}
-use Rattle.eos.proofs.linear.eliminate.Tie as tie
+-- `linear::systems::eliminate` meets its contract. Assumes nothing.
+use Rattle.linear.specs.Linear.{eliminated}
+use Rattle.linear.proofs.systems.eliminate.Statement.{statement}
+use Rattle.linear.proofs.systems.eliminate.Tie as tie
 
 returns : tie.Need-returns
 unfolding eliminated

@@ -1,8 +1,8 @@
--- `eos::linear::norm` meets its contract. Assumes nothing.
-use Rattle.eos.specs.Linear.{normOf}
+-- `linear::systems::norm` meets its contract. Assumes nothing.
+use Rattle.linear.specs.Linear.{normOf}
 use borrow.Author.Needs.{needs}
-use Rattle.eos.proofs.linear.norm.Statement.{statement}
-use Rattle.eos.proofs.linear.norm.Tie as tie
+use Rattle.linear.proofs.systems.norm.Statement.{statement}
+use Rattle.linear.proofs.systems.norm.Tie as tie
 
 sqrt-requires : tie.Need-sqrt-requires
 sqrt-requires c κs = search needs

@@ -1,9 +1,9 @@
--- `jet::twelve::div_12` meets its contract. Assumes nothing.
+-- `jet_twelve::div_12` meets its contract. Assumes nothing.
 use mathlib.Core.Path.{sym, _∙_}
-use Rattle.jet.proofs.UptoTwelve.{quotient-linear}
+use Rattle.jet_twelve.proofs.UptoTwelve.{quotient-linear}
 use borrow.Author.Needs.{needs}
-use Rattle.jet.proofs.twelve.div_12.Statement.{statement}
-use Rattle.jet.proofs.twelve.div_12.Tie as tie
+use Rattle.jet_twelve.proofs.div_12.Statement.{statement}
+use Rattle.jet_twelve.proofs.div_12.Tie as tie
 
 element-copy-out-y0 : tie.Need-element-copy-out-y0
 element-copy-out-y0 c = search needs

@@ -1,6 +1,6 @@
 // The 2 by 2 solve and the norm of document 01's stand-ins.
 ghost use mathlib.Core.Path.{_≡_};
-ghost use Rattle.eos.specs.Linear.{eliminated, solve2, normOf};
+ghost use Rattle.linear.specs.Linear.{eliminated, solve2, normOf};
 use crate::types::Solved;
 
 // The rows (a, b | r) and (c, d | s), with a the pivot.

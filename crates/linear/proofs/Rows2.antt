@@ -5,8 +5,8 @@ use mathlib.Core.List.{List}
 use lib.ListN.{getD}
 use lib.Ieee.{Float, nan, lt}
 use Rattle.float.specs.Sign.{absOf}
-use Rattle.eos.specs.declared.types.Solved.{Solved}
-use Rattle.eos.specs.Linear.{entry, eliminated, solve2}
+use Rattle.linear.specs.declared.types.Solved.{Solved}
+use Rattle.linear.specs.Linear.{entry, eliminated, solve2}
 
 module _ (m : List (List Float)) (r : List Float) (x y : Float) (ex : x ≡ absOf (entry m 0 0)) (ey : y ≡ absOf (entry m 1 0)) (s : Solved) where
   pub swapped-law : lt x y ≡ true → s ≡ eliminated (entry m 1 0) (entry m 1 1) (getD r 1 nan) (entry m 0 0) (entry m 0 1) (getD r 0 nan) → s ≡ solve2 m r

@@ -7,8 +7,8 @@ use lib.Ieee.{Float, nan, lt, eq}
 use Rattle.float.specs.Ops.{_⊕_, _⊖_, _⊗_, _⊘_, f0}
 use Rattle.float.specs.Root.{root}
 use Rattle.float.specs.Sign.{absOf}
-use Rattle.eos.specs.declared.types.Solved.{Solved}
-use Rattle.eos.specs.declared.types.Solved.the-variants.{Delta, ZeroPivot}
+use Rattle.linear.specs.declared.types.Solved.{Solved}
+use Rattle.linear.specs.declared.types.Solved.the-variants.{Delta, ZeroPivot}
 
 -- the entry of row i, column j
 abbrev pub entry : List (List Float) → ℕ → ℕ → Float

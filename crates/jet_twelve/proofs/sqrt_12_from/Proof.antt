@@ -1,9 +1,9 @@
--- `jet::twelve::sqrt_12_from` meets its contract. Assumes nothing.
+-- `jet_twelve::sqrt_12_from` meets its contract. Assumes nothing.
 use mathlib.Core.Path.{sym, _∙_}
-use Rattle.jet.proofs.UptoTwelve.{root-linear}
+use Rattle.jet_twelve.proofs.UptoTwelve.{root-linear}
 use borrow.Author.Needs.{needs}
-use Rattle.jet.proofs.twelve.sqrt_12_from.Statement.{statement}
-use Rattle.jet.proofs.twelve.sqrt_12_from.Tie as tie
+use Rattle.jet_twelve.proofs.sqrt_12_from.Statement.{statement}
+use Rattle.jet_twelve.proofs.sqrt_12_from.Tie as tie
 
 element-copy-out-r1 : tie.Need-element-copy-out-r1
 element-copy-out-r1 c = search needs

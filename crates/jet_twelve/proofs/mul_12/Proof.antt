@@ -1,9 +1,9 @@
--- `jet::twelve::mul_12` meets its contract. Assumes nothing.
+-- `jet_twelve::mul_12` meets its contract. Assumes nothing.
 use mathlib.Core.Path.{sym, _∙_}
-use Rattle.jet.proofs.UptoTwelve.{product-linear}
+use Rattle.jet_twelve.proofs.UptoTwelve.{product-linear}
 use borrow.Author.Needs.{needs}
-use Rattle.jet.proofs.twelve.mul_12.Statement.{statement}
-use Rattle.jet.proofs.twelve.mul_12.Tie as tie
+use Rattle.jet_twelve.proofs.mul_12.Statement.{statement}
+use Rattle.jet_twelve.proofs.mul_12.Tie as tie
 
 element-copy-out-x0 : tie.Need-element-copy-out-x0
 element-copy-out-x0 c = search needs
