@@ -15,7 +15,7 @@ use Rattle.block.specs.declared.types.Numbers.{Numbers}
 use Rattle.block.specs.declared.types.Job.{Job}
 use Rattle.block.specs.Pairs.{offsetOf, lengthOf, coefficients, interactions, fractions, conditions, lengthsFit, offsetsFit, pairsFit}
 use Rattle.block.specs.Numbers.{floatsAt, readsFractions, fractionCount, usesChoice, usesPressure, usesStart, choiceOf, pressureOf, startOf, conditionsOf, numbersOf}
-use Rattle.block.specs.View.{check, checked, view}
+use Rattle.block.specs.View.{check, lastChecks, checked, view}
 use Rattle.block.specs.Alike.{SameRead, SameBytes, Stage, both-refused, both-pass, SameConditions, SameData, SameNumbers, Alike}
 use Rattle.block.proofs.Lists.{tabulate-same}
 use Rattle.block.proofs.ViewLaws.{readyJob}
@@ -152,7 +152,7 @@ all-same d e c i x s q =
     }
 
 pub data-alike : (kind n : ℕ) (d e : Numbers) → SameData kind n d e → checked kind n d ≡ checked kind n e
-unfolding SameData checked
+unfolding SameData checked lastChecks
 data-alike kind n d e a =
     stage-same 12 _ _ a
     (λ ec a₁. stage-same 13 _ _ a₁

@@ -20,8 +20,8 @@ use Rattle.block.specs.Pairs.{offsetOf, coefficients, interactions, frac
 use Rattle.block.specs.Numbers.{floatsAt, readsFractions, fractionCount, conditionsOf, numbersOf}
 use Rattle.block.specs.Blend.{at, componentAt, interactionAt, blendOf}
 use Rattle.block.specs.Checks.{positive, componentsFit, interactionsFit, fractionsFit, conditionsFit, choices, choiceFits}
-use Rattle.block.specs.View.{taskOf, searched, refused, check, runFits, checked}
-use Rattle.block.specs.Reading.{searches, Reads, searchedCount, lastChecks}
+use Rattle.block.specs.View.{taskOf, searched, refused, check, runFits, lastChecks, checked}
+use Rattle.block.specs.Reading.{notRefused, Reads, searchedCount}
 
 -- the blend that is searched, from its rows; where one component is searched the interactions are not read
 pub blend-read : (kind n : ℕ) (s : List ℕ) (i j l choice : ℕ) (tc a b kappa k x : List Float) → i ≡ offsetOf s coefficients → j ≡ offsetOf s interactions → l ≡ offsetOf s fractions
@@ -69,8 +69,8 @@ unread kind read t = rw t
 
 -- a refused job has no blend to be read
 pub refused-reads : (number : ℕ) (task : Task) (rows : Blend) → task ≡ Refused number → Reads (refused number) task rows
-unfolding refused searches
-refused-reads number task rows e = (e, λ s. let z : _≡_ {A = Bool} false true = ap searches (sym e) ∙ s in absurd (false≢true z))
+unfolding refused notRefused
+refused-reads number task rows e = (e, λ s. let z : _≡_ {A = Bool} false true = ap notRefused (sym e) ∙ s in absurd (false≢true z))
 
 module _ (kind n : ℕ) (d : Numbers) (task : Task) (rows : Blend) where
   pub refused-12 : componentsFit n (d .coefficients) ≡ false → task ≡ Refused 12 → Reads (checked kind n d) task rows
@@ -96,12 +96,12 @@ module _ (kind n : ℕ) (c : Conditions) (whole : Blend) (task : Task) (rows : B
   refused-15 p e = rw p (refused-reads 15 task rows e)
 
   pub refused-16 : conditionsFit kind c ≡ true → choiceFits kind n (c .choice) ≡ false → task ≡ Refused 16 → Reads (lastChecks kind n c whole) task rows
-  unfolding lastChecks
+  unfolding lastChecks runFits
   refused-16 p q e = rw (p, q) (refused-reads 16 task rows e)
 
   pub passed-16 : (made : Task) (blend : Blend) → conditionsFit kind c ≡ true → choiceFits kind n (c .choice) ≡ true → made ≡ taskOf kind c → blend ≡ rows → rows ≡ searched kind (c .choice) whole
       → task ≡ check (positive (maxDensity blend)) 16 (record { task = made; blend = blend }) .task → Reads (lastChecks kind n c whole) task rows
-  unfolding lastChecks
+  unfolding lastChecks runFits
   passed-16 made blend p q em eb er e = rw (p, q, ← er, ← em) (go (positive (maxDensity rows)) (rw eb at e))
     where
       go : (t : Bool) → task ≡ check t 16 (record { task = made; blend = rows }) .task → Reads (check t 16 (record { task = made; blend = rows })) task rows

@@ -18,9 +18,10 @@ use Rattle.block.specs.declared.types.Task.the-variants.{Refused, Densit
 use Rattle.block.specs.declared.types.Job.{Job}
 use Rattle.block.specs.Pairs.{pairsFit}
 use Rattle.block.specs.Numbers.{numbersOf}
+use Rattle.block.specs.Blend.{blendOf}
 use Rattle.block.specs.Checks.{componentsFit, interactionsFit, fractionsFit, conditionsFit}
-use Rattle.block.specs.View.{initialOf, branchOf, givenOf, taskOf, refused, check, runBlend, runFits, checked, view}
-use Rattle.block.specs.Reading.{searches}
+use Rattle.block.specs.View.{initialOf, branchOf, givenOf, taskOf, refused, check, runBlend, runFits, lastChecks, checked, view}
+use Rattle.block.specs.Reading.{notRefused}
 use Rattle.block.proofs.types.Task.{the-type}
 
 -- the job that passes every check
@@ -39,7 +40,7 @@ module _ (P : Job → Type 0) where
   -- 11 and on
   data-keeps : (kind n : ℕ) (s : List ℕ) → ((number : ℕ) → OfData number → P (refused number)) → P (readyJob kind n (numbersOf kind n s))
       → P (check (pairsFit n s) 11 (checked kind n (numbersOf kind n s)))
-  unfolding checked
+  unfolding checked lastChecks
   data-keeps kind n s r h =
       let d = numbersOf kind n s in
       check-keeps (pairsFit n s) 11 _ (r 11 refl)
@@ -47,7 +48,7 @@ module _ (P : Job → Type 0) where
       (check-keeps (interactionsFit n (d .interactions)) 13 _ (r 13 refl)
       (check-keeps (fractionsFit n (d .fractions)) 14 _ (r 14 refl)
       (check-keeps (conditionsFit kind (d .conditions)) 15 _ (r 15 refl)
-      (check-keeps (runFits kind n d) 16 _ (r 16 refl) h)))))
+      (check-keeps (runFits kind n (d .conditions) (blendOf n d)) 16 _ (r 16 refl) h)))))
 
   -- any request; no refusal's number is above 16
   pub view-keeps : (kind n : ℕ) (s : List ℕ) → ((number : ℕ) → leb number 16 ≡ true → P (refused number)) → P (readyJob kind n (numbersOf kind n s)) → P (view kind n s)
@@ -79,29 +80,29 @@ module _ (P : Task → Type 0) where
 
 -- ---- a job that is refused, and one that is not
 
-task-searches : (kind : ℕ) (c : Conditions) → searches (taskOf kind c) ≡ true
-unfolding searches
-task-searches kind c = task-keeps (λ (task : Task). searches task ≡ true) kind c refl refl refl refl refl refl
+task-not-refused : (kind : ℕ) (c : Conditions) → notRefused (taskOf kind c) ≡ true
+unfolding notRefused
+task-not-refused kind c = task-keeps (λ (task : Task). notRefused task ≡ true) kind c refl refl refl refl refl refl
 
 -- a refusal says all of the job
 pub view-refused : (kind n : ℕ) (s : List ℕ) (number : ℕ) → Refused number ≡ view kind n s .task → refused number ≡ view kind n s
-unfolding refused searches
+unfolding refused notRefused
 view-refused kind n s number =
     view-keeps (λ (job : Job). Refused number ≡ job .task → refused number ≡ job) kind n s (λ k _ e. let z : number ≡ k = cc in ap refused z)
-    (λ e. absurd (false≢true (ap searches e ∙ task-searches kind (numbersOf kind n s .conditions))))
+    (λ e. absurd (false≢true (ap notRefused e ∙ task-not-refused kind (numbersOf kind n s .conditions))))
 
 -- the task that is left where a match has taken the refusal away
-pub searches-left : (task : Task) → OneOf (1 ∷ 2 ∷ 3 ∷ 4 ∷ 5 ∷ 6 ∷ []) (tagOf the-type task) → searches task ≡ true
-unfolding searches
-searches-left (Refused number) h = absurd (miss (1 ∷ 2 ∷ 3 ∷ 4 ∷ 5 ∷ 6 ∷ []) 0 tt h)
-searches-left (DensityIteration t p initial) h = refl
-searches-left (DensityIterationStable t p) h = refl
-searches-left (PressureSpinodal t start) h = refl
-searches-left (PressureSpinodalBranch t branch) h = refl
-searches-left (CriticalPoint t density) h = refl
-searches-left (Spinodal t) h = refl
+pub not-refused-left : (task : Task) → OneOf (1 ∷ 2 ∷ 3 ∷ 4 ∷ 5 ∷ 6 ∷ []) (tagOf the-type task) → notRefused task ≡ true
+unfolding notRefused
+not-refused-left (Refused number) h = absurd (miss (1 ∷ 2 ∷ 3 ∷ 4 ∷ 5 ∷ 6 ∷ []) 0 tt h)
+not-refused-left (DensityIteration t p initial) h = refl
+not-refused-left (DensityIterationStable t p) h = refl
+not-refused-left (PressureSpinodal t start) h = refl
+not-refused-left (PressureSpinodalBranch t branch) h = refl
+not-refused-left (CriticalPoint t density) h = refl
+not-refused-left (Spinodal t) h = refl
 
 -- a job from its task and the rows of its blend
-pub view-searches : (kind n : ℕ) (s : List ℕ) (task : Task) (rows blend : Blend) → task ≡ view kind n s .task → rows ≡ view kind n s .blend → blend ≡ rows
+pub view-not-refused : (kind n : ℕ) (s : List ℕ) (task : Task) (rows blend : Blend) → task ≡ view kind n s .task → rows ≡ view kind n s .blend → blend ≡ rows
     → _≡_ {A = Job} (record { task = task; blend = blend }) (view kind n s)
-view-searches kind n s task rows blend et er eb = rw (eb, et, er)
+view-not-refused kind n s task rows blend et er eb = rw (eb, et, er)

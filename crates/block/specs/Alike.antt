@@ -10,6 +10,7 @@ use Rattle.block.specs.declared.types.Conditions.{Conditions}
 use Rattle.block.specs.declared.types.Numbers.{Numbers}
 use Rattle.block.specs.Pairs.{offsetOf, coefficients, interactions, fractions, conditions, pairsFit}
 use Rattle.block.specs.Numbers.{readsFractions, usesChoice, usesPressure, usesStart, choiceOf, numbersOf}
+use Rattle.block.specs.Blend.{blendOf}
 use Rattle.block.specs.Checks.{componentsFit, interactionsFit, fractionsFit, conditionsFit}
 use Rattle.block.specs.View.{runFits, view}
 
@@ -57,7 +58,7 @@ SameData kind n d e =
     (Stage (interactionsFit n) (d .interactions) (e .interactions) (d .interactions ≡ e .interactions)
     (Stage (fractionsFit n) (d .fractions) (e .fractions) (d .fractions ≡ e .fractions)
     (Stage (conditionsFit kind) (d .conditions) (e .conditions) (SameConditions (d .conditions) (e .conditions))
-    (Stage (runFits kind n) d e (d .conditions .choice ≡ e .conditions .choice) (Unit {0})))))
+    (Stage (λ (d : Numbers). runFits kind n (d .conditions) (blendOf n d)) d e (d .conditions .choice ≡ e .conditions .choice) (Unit {0})))))
 
 -- 11, which blocks with other offsets pass too, and then the numbers
 pub record SameNumbers (kind n : ℕ) (s t : List ℕ) : Type 0 where

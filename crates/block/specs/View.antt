@@ -61,17 +61,19 @@ abbrev pub runBlend : (kind n : ℕ) → Numbers → Blend
 runBlend kind n d = searched kind (d .conditions .choice) (blendOf n d)
 
 -- "16 choice, or the run's maximum density not finite and positive"
-unfoldable pub runFits : (kind n : ℕ) → Numbers → Bool
-runFits kind n d = choiceFits kind n (d .conditions .choice) && positive (maxDensity (runBlend kind n d))
+unfoldable pub runFits : (kind n : ℕ) → Conditions → Blend → Bool
+runFits kind n c whole = choiceFits kind n (c .choice) && positive (maxDensity (searched kind (c .choice) whole))
+
+-- 15 and 16, of the conditions and of what is searched of the whole blend under them
+unfoldable pub lastChecks : (kind n : ℕ) → Conditions → Blend → Job
+lastChecks kind n c whole = check (conditionsFit kind c) 15 (check (runFits kind n c whole) 16 (record { task = taskOf kind c; blend = searched kind (c .choice) whole }))
 
 -- "The supplier's data, sealed, in this order", after 11
 unfoldable pub checked : (kind n : ℕ) → Numbers → Job
 checked kind n d =
     check (componentsFit n (d .coefficients)) 12
     (check (interactionsFit n (d .interactions)) 13
-    (check (fractionsFit n (d .fractions)) 14
-    (check (conditionsFit kind (d .conditions)) 15
-    (check (runFits kind n d) 16 (record { task = taskOf kind (d .conditions); blend = runBlend kind n d })))))
+    (check (fractionsFit n (d .fractions)) 14 (lastChecks kind n (d .conditions) (blendOf n d))))
 
 -- "2 kind not 1 to 6; 3 N not 1 to 8; .. 8 block not 640 bytes", in submit's order; then the data
 unfoldable pub view : (kind n : ℕ) → List ℕ → Job

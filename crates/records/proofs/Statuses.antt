@@ -20,7 +20,7 @@ use Rattle.block.specs.declared.types.Conditions.{Conditions}
 use Rattle.block.specs.declared.types.Job.{Job}
 use Rattle.block.specs.declared.types.Task.{Task}
 use Rattle.block.specs.Numbers.{numbersOf}
-use Rattle.block.specs.View.{taskOf, refused, check, checked, view}
+use Rattle.block.specs.View.{taskOf, refused, check, lastChecks, checked, view}
 use Rattle.block.proofs.ViewLaws.{readyJob, task-keeps}
 use Rattle.records.specs.Outcome.{courseOf, refusedEnd, searchEnd, endOf, outcomeOf}
 use Rattle.records.specs.Record.{floatBytes, sealedBytes, sealedOf}
@@ -88,7 +88,7 @@ module _ (kind n : ℕ) (block : List ℕ) (k : Inside 1 6 kind) (c : Inside 1 8
   by-checks t₁ t₂ t₃ t₄ t₅ t₆ = check t₁ 11 (check t₂ 12 (check t₃ 13 (check t₄ 14 (check t₅ 15 (check t₆ 16 ready)))))
 
   view-is : job ≡ by-checks (pairs kind n block) (components kind n block) (interactions kind n block) (fractions kind n block) (conditions kind n block) (run kind n block)
-  unfolding view checked
+  unfolding view checked lastChecks
   view-is = rw (inside-true 1 6 kind k, inside-true 1 8 n c, eq-eqb (length block) 640 l)
 
   status-tests : DataTests kind n block (outcomeOf job .status)

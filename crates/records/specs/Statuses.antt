@@ -9,6 +9,7 @@ use Rattle.buf.specs.Bytes.{bytesOf, zeros, u64At}
 use Rattle.block.specs.Pairs.{pairsFit}
 use Rattle.block.specs.Numbers.{numbersOf}
 use Rattle.block.specs.Checks.{componentsFit, interactionsFit, fractionsFit, conditionsFit}
+use Rattle.block.specs.Blend.{blendOf}
 use Rattle.block.specs.View.{runFits}
 use Rattle.schedule.specs.Spans.{spanOf}
 use Rattle.schedule.specs.Refusals.{Inside}
@@ -43,7 +44,7 @@ module _ (kind n : ℕ) (block : List ℕ) where
 
   -- the choice, and the run's maximum density
   abbrev pub run : Bool
-  run = runFits kind n (numbersOf kind n block)
+  run = runFits kind n (numbersOf kind n block .conditions) (blendOf n (numbersOf kind n block))
 
   -- "The supplier's data, sealed, in this order"
   pub data DataTests : (status : ℕ) → Type 0 where

@@ -8,7 +8,7 @@ use Rattle.solver.specs.Evaluated.{evaluated}
 use Rattle.block.specs.declared.types.Job.{Job}
 use Rattle.block.specs.declared.types.Task.{Task}
 use Rattle.block.specs.declared.types.Task.the-variants as Task
-use Rattle.block.specs.Reading.{searches, Reads}
+use Rattle.block.specs.Reading.{notRefused, Reads}
 use Rattle.solver_state.specs.declared.types.State.{State}
 use Rattle.stepping.specs.declared.types.Work.{Work}
 use Rattle.stepping.specs.Stepping.{workOf, startBy, startOf, stepBy, stepOf}
@@ -18,8 +18,8 @@ module _ (begun : Bool) (stored : State) where
   abbrev stepOn : Task → Blend → State
   stepOn task b = stepBy (evaluated b) (workOf (maxDensity b) task) (cond begun stored (startBy (workOf (maxDensity b) task)))
 
-  same-step : (task : Task) (rows b : Blend) → (searches task ≡ true → rows ≡ b) → stepOn task rows ≡ stepOn task b
-  unfolding workOf startBy stepBy searches
+  same-step : (task : Task) (rows b : Blend) → (notRefused task ≡ true → rows ≡ b) → stepOn task rows ≡ stepOn task b
+  unfolding workOf startBy stepBy notRefused
   same-step (Task.Refused number) rows b h = refl
   same-step (Task.DensityIteration t p initial) rows b h = ap (stepOn (Task.DensityIteration t p initial)) (h refl)
   same-step (Task.DensityIterationStable t p) rows b h = ap (stepOn (Task.DensityIterationStable t p)) (h refl)

@@ -1,6 +1,6 @@
 -- `block::reader::view` meets its contract. Assumes nothing.
 use mathlib.Core.Path.{sym, _∙_}
-use Rattle.block.proofs.ViewLaws.{view-searches, view-refused, searches-left}
+use Rattle.block.proofs.ViewLaws.{view-not-refused, view-refused, not-refused-left}
 use borrow.Author.Needs.{needs}
 use Rattle.block.proofs.reader.view.Statement.{statement}
 use Rattle.block.proofs.reader.view.Tie as tie
@@ -20,7 +20,7 @@ blend-requires c κs = search needs
 returns : tie.Need-returns
 returns c =
     let r = c .before .before .before .before .before .before .before .before .before .read .ensures in
-    view-searches _ _ _ _ _ _ (r .0) (r .1 (searches-left _ (c .before .before .before .before .before .before .before .before .match .keys2))) (rw (c .before .before .before .before .before .before .before .searched-count .ensures) at (c .blend .ensures))
+    view-not-refused _ _ _ _ _ _ (r .0) (r .1 (not-refused-left _ (c .before .before .before .before .before .before .before .before .match .keys2))) (rw (c .before .before .before .before .before .before .before .searched-count .ensures) at (c .blend .ensures))
 
 refused-requires : tie.Need-refused-requires
 refused-requires c κs = search needs
