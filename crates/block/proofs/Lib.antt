@@ -3,6 +3,4 @@ pub mod Sizes
 pub mod ReadLaws
 pub mod InteractionLaws
 pub mod PairLaws
-pub mod BlendLaws
-pub mod AlikeLaws
-pub mod ViewLaws
+pub mod SameBytes

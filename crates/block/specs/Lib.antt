@@ -3,6 +3,4 @@ pub mod Pairs
 pub mod Numbers
 pub mod Blend
 pub mod Checks
-pub mod View
-pub mod Reading
-pub mod Alike
+pub mod SameBytes

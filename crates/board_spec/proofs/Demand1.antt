@@ -8,7 +8,7 @@ use native.Mathlib.Omega.{arith}
 use lib.ListN.{length}
 use lib.Dec.{eqb}
 use Rattle.buf.specs.Bytes.{part, splice, u64At}
-use Rattle.block.specs.View.{view}
+use Rattle.reader.specs.View.{view}
 use Rattle.records.specs.declared.types.Outcome.{Outcome}
 use Rattle.records.specs.Record.{publicBytes, sealedBytes, recordBytes, sealedOf}
 use Rattle.records.specs.Statuses.{Sealed}

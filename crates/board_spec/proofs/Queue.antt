@@ -10,8 +10,8 @@ use lib.ListN.{length, length-append}
 use lib.Dec.{eqb}
 use borrow.Author.Tests.{eq-eqb, ne-eqb, eqb-true, eqb-false}
 use Rattle.buf.specs.Bytes.{part, splice, u64At, putU64}
-use Rattle.block.specs.declared.types.Job.{Job}
-use Rattle.block.specs.View.{view}
+use Rattle.reader.specs.declared.types.Job.{Job}
+use Rattle.reader.specs.View.{view}
 use Rattle.records.specs.Record.{recordBytes, sealedBytes, sealedOf}
 use Rattle.schedule.specs.Spans.{kindFits, countFits, spanOf}
 use Rattle.schedule.specs.Schedule.{Held, turnsOf, Undergone, turned, undergo}

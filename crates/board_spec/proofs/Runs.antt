@@ -12,7 +12,7 @@ use Rattle.buf.proofs.Laws.{splice-append, length-splice, part-splice-before, p
 use Rattle.records.specs.Outcome.{outcomeOf}
 use Rattle.records.specs.Record.{publicBytes, sealedAt, sealedOf}
 use Rattle.records.proofs.RecordLaws.{length-public, length-sealed}
-use Rattle.block.specs.View.{view}
+use Rattle.reader.specs.View.{view}
 use Rattle.schedule.specs.Schedule.{Held, Schedule, Call, Submit, Turn, Look, Event, refused, accepted, served, looked, Verdict, accept, refuse, turnVerdict, verdict, serves, lookedAt, submitted, turnTaken, acts, judged, happens, events, afterAll, fresh, mapHeld, mapOut, mapEvent}
 use Rattle.schedule.proofs.Image.{maps-run}
 use Rattle.board_spec.specs.Board.{Refused, Did, refusedDid, submitJudged, submitBoard, turnDid, turnJudged, turnBoard, lookJudged, lookBoard}

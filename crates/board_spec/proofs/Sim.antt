@@ -9,7 +9,7 @@ use lib.Dec.{leb, ltb, eqb}
 use borrow.Author.Tests.{le-leb, leb-true, ltb-true, ltb-false, eqb-true, eqb-false}
 use Rattle.buf.specs.Bytes.{part, splice, zeros, numAt, u64At, putU64}
 use Rattle.buf.proofs.Laws.{length-putNum, length-splice, length-part, length-zeros, get-put-same, part-put-before, part-splice-same, part-splice-before, part-splice-after, part-zeros, numAt-zeros}
-use Rattle.block.specs.View.{view}
+use Rattle.reader.specs.View.{view}
 use Rattle.schedule.specs.Spans.{kindFits, countFits}
 use Rattle.schedule.specs.Schedule.{Held, Queue, Schedule, Call, Submit, Turn, Look, refused, accepted, Verdict, accept, refuse, check, submitVerdict, turnVerdict, lookVerdict, turnsOf, verdict, serves, onward, undergo, put, entered, withJobs, Happened, lookedAt, submitted, turnTaken, acts, judged, happens, fresh}
 use Rattle.schedule.proofs.Rounds.{onward-low}

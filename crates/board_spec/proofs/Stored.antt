@@ -16,7 +16,7 @@ use Rattle.solver.specs.Evaluated.{evaluated}
 use Rattle.solver_state.specs.declared.types.State.{State}
 use Rattle.solver_state.specs.declared.types.Job as Search
 use Rattle.solver_state.specs.State.{going}
-use Rattle.block.specs.declared.types.Job.{Job}
+use Rattle.reader.specs.declared.types.Job.{Job}
 use Rattle.records.specs.Record.{recordBytes}
 use Rattle.schedule.specs.Spans.{kindFits, spanOf}
 use Rattle.schedule.specs.Schedule.{turnVerdict, lookVerdict, onward}

@@ -5,7 +5,7 @@ use Prim.Native.Nat.{ℕ, _+_, _≤_, _<_}
 use mathlib.Core.Bool.{true, false}
 use lib.ListN.{length}
 use Rattle.buf.specs.Bytes.{u64At, f64At}
-use Rattle.block.specs.View.{view}
+use Rattle.reader.specs.View.{view}
 use Rattle.records.specs.Record.{sealedBytes, sealedOf}
 use Rattle.records.specs.Statuses.{Sealed}
 use Rattle.schedule.specs.Spans.{spanOf}

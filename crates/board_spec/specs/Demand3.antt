@@ -6,7 +6,7 @@ use mathlib.Core.List.{List, [], _∷_, _++_, map}
 use mathlib.Core.Option.{Option, some}
 use lib.ListN.{length}
 use Rattle.buf.specs.Bytes.{part, u64At}
-use Rattle.block.specs.Alike.{Alike}
+use Rattle.reader.specs.Alike.{Alike}
 use Rattle.records.specs.Record.{publicBytes, sealedAt, sealedOf}
 use Rattle.records.specs.Demand2.{rustSealed, cleanRequest}
 use Rattle.schedule.specs.Spans.{spanOf}

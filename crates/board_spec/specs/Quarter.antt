@@ -6,8 +6,8 @@ use lib.Dec.{leb, ltb, eqb}
 use Rattle.buf.specs.Bytes.{part, splice, u64At, putU64, f64At, putF64}
 use Rattle.solver.specs.declared.types.Counters.{Counters}
 use Rattle.solver.specs.declared.types.Values.{Values}
-use Rattle.block.specs.declared.types.Job.{Job}
-use Rattle.block.specs.View.{view}
+use Rattle.reader.specs.declared.types.Job.{Job}
+use Rattle.reader.specs.View.{view}
 use Rattle.records.specs.Record.{recordBytes}
 use Rattle.schedule.specs.Spans.{kindFits, countFits, spanOf}
 use Rattle.solver_state.specs.declared.types.State.{State}

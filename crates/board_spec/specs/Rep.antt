@@ -4,7 +4,7 @@ use Prim.Native.Nat.{ℕ, suc, _-_, _%_, _^_, _≤_, _<_}
 use mathlib.Core.List.{List, [], _∷_}
 use lib.ListN.{length}
 use Rattle.buf.specs.Bytes.{part, u64At}
-use Rattle.block.specs.View.{view}
+use Rattle.reader.specs.View.{view}
 use Rattle.schedule.specs.Spans.{spanOf}
 use Rattle.schedule.specs.Schedule.{Held, Schedule, turnsOf}
 use Rattle.board_spec.specs.Layout.{boardLength, quarterLength, turnAt, acceptedAt, heldAt, turnsAt, kindAt, countAt, blockAt}

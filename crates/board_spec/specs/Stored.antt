@@ -12,7 +12,7 @@ use Rattle.solver_state.specs.declared.types.State.{State}
 use Rattle.solver_state.specs.declared.types.Job as Search
 use Rattle.solver_state.specs.State.{going}
 use Rattle.buf.specs.Bytes.{splice}
-use Rattle.block.specs.declared.types.Job.{Job}
+use Rattle.reader.specs.declared.types.Job.{Job}
 use Rattle.records.specs.Record.{recordBytes}
 use Rattle.schedule.specs.Spans.{spanOf}
 use Rattle.stepping.specs.declared.types.Work.the-variants as Work

@@ -16,7 +16,7 @@ use Rattle.eos.specs.declared.types.Blend.{Blend}
 use Rattle.eos.specs.declared.types.Mixture.{Mixture}
 use Rattle.eos.specs.Indices.{foldFrom, jetTotal}
 use Rattle.eos.specs.Cubic.{nth, akOf, mixTerm, mixRow, akMix, bMix, contribution}
-use Rattle.eos.specs.Residual.{partialDensity, molefracs, akMixOf, bMixOf, energyDensity, Mixes, helmholtz}
+use Rattle.eos.specs.Helmholtz.{partialDensity, molefracs, akMixOf, bMixOf, energyDensity, Mixes, helmholtz}
 use Rattle.eos.proofs.Chain.{contribution-cong}
 use Rattle.eos.proofs.Totals.{total-cong, akMix-cong, bMix-cong}
 

@@ -1,5 +1,4 @@
 pub mod Indices
 pub mod Jets
 pub mod Cubic
-pub mod Residual
-pub mod Critical
+pub mod Helmholtz

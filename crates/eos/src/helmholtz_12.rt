@@ -9,7 +9,7 @@ ghost use Rattle.jet.specs.Coefficients.{at, Upto};
 ghost use Rattle.jet.specs.Ops.{_⧄_};
 ghost use Rattle.eos.specs.Jets.{jetAt};
 ghost use Rattle.eos.specs.Cubic.{nth, akOf, mixTerm, akMix, bMix, repulsion, logRatio, attraction, contribution};
-ghost use Rattle.eos.specs.Residual.{partialDensity, Mixes, helmholtz as helmholtzOf};
+ghost use Rattle.eos.specs.Helmholtz.{partialDensity, Mixes, helmholtz as helmholtzOf};
 use crate::mixture::firsts;
 use crate::mixture::root_place;
 use crate::mixture::roots;

@@ -1,4 +1,4 @@
-// What a blend is, what its components make together, and what the evaluations yield. All by value.
+// What a blend is, and what its components make together. All by value.
 use jet::Jet;
 
 // The parameters of one component: critical temperature, a, b and kappa.
@@ -25,27 +25,4 @@ pub struct Mixture {
     pub density: Jet,
     pub a: Jet,
     pub b: Jet,
-}
-
-// Pressure, its slope and its curvature along the density.
-pub struct Pressure {
-    pub p: f64,
-    pub dp_drho: f64,
-    pub d2p_drho2: f64,
-}
-
-// The two criticality conditions, and their derivatives by temperature and density.
-pub struct Criticality {
-    pub l: f64,
-    pub c2: f64,
-    pub dl_dt: f64,
-    pub dl_drho: f64,
-    pub dc2_dt: f64,
-    pub dc2_drho: f64,
-}
-
-// The stability condition, and its derivative by the density.
-pub struct Stability {
-    pub f: f64,
-    pub df: f64,
 }

@@ -3,9 +3,9 @@
 // and acentric factor of each component; the interactions k_ij by rows, i below j; the fractions; temperature; density.
 // README.md has the evaluation bytes.
 use eos::Blend;
-use eos::Criticality;
-use eos::Pressure;
-use eos::Stability;
+use evaluations::Criticality;
+use evaluations::Pressure;
+use evaluations::Stability;
 use libc::STDOUT_FILENO;
 ghost use Prim.Native.Nat.{_+_, _≤_, _<_};
 
@@ -185,11 +185,11 @@ fn first_component(blend: Blend) -> Blend {
 
 fn print_evaluation(evaluation: u8, blend: Blend, t: f64, rho: f64) {
     match evaluation {
-        1 => print_pressure(eos::p_dpdrho(blend, t, rho)),
-        2 => print_pressure(eos::p_dpdrho_d2pdrho2(blend, t, rho)),
-        3 => print_float(eos::chemical_potential(blend, t, rho)),
-        4 => print_criticality(eos::criticality_conditions(first_component(blend), t, rho)),
-        _ => print_stability(eos::stability_condition(first_component(blend), t, rho)),
+        1 => print_pressure(evaluations::p_dpdrho(blend, t, rho)),
+        2 => print_pressure(evaluations::p_dpdrho_d2pdrho2(blend, t, rho)),
+        3 => print_float(evaluations::chemical_potential(blend, t, rho)),
+        4 => print_criticality(evaluations::criticality_conditions(first_component(blend), t, rho)),
+        _ => print_stability(evaluations::stability_condition(first_component(blend), t, rho)),
     }
 }
 

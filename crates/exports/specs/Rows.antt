@@ -1,9 +1,9 @@
 -- What the evaluations yield, as one row each. Definitions only.
 use mathlib.Core.List.{List, [], _∷_}
 use lib.Ieee.{Float}
-use Rattle.eos.specs.declared.types.Pressure.{Pressure}
-use Rattle.eos.specs.declared.types.Criticality.{Criticality}
-use Rattle.eos.specs.declared.types.Stability.{Stability}
+use Rattle.evaluations.specs.declared.types.Pressure.{Pressure}
+use Rattle.evaluations.specs.declared.types.Criticality.{Criticality}
+use Rattle.evaluations.specs.declared.types.Stability.{Stability}
 
 abbrev pub pressureRow : Pressure → List Float
 pressureRow y = y .p ∷ y .«dp_drho» ∷ y .«d2p_drho2» ∷ []

@@ -4,8 +4,8 @@ ghost use mathlib.Core.Path.{_≡_};
 ghost use Rattle.float.specs.Root.{root};
 ghost use Rattle.float.specs.Ln.{lnOf};
 ghost use Rattle.jet.specs.Coefficients.{sumOf, productOf, quotientOf, rootOf, logarithmOf, cut};
-ghost use Rattle.eos.specs.Residual.{pDpdrho, pDpdrhoD2pdrho2, chemicalPotential};
-ghost use Rattle.eos.specs.Critical.{criticalityConditions, stabilityCondition};
+ghost use Rattle.evaluations.specs.Residual.{pDpdrho, pDpdrhoD2pdrho2, chemicalPotential};
+ghost use Rattle.evaluations.specs.Critical.{criticalityConditions, stabilityCondition};
 ghost use Rattle.records.specs.Answered.{numberOf, answered};
 ghost use Rattle.board_spec.specs.Board.{submitBoard, turnBoard, lookBoard};
 ghost use Rattle.board.specs.Answers.{numberOf as numberSaid, ticketOf, evaluationsOf, densityOf};
@@ -152,7 +152,7 @@ pub extern "C" fn eos_p_dpdrho(
 )
     ensures { λ _. ⌜ now (r .exit) ≡ pressureRow (pDpdrho (blendBy n (now (tc .entry)) (now (a .entry)) (now (b .entry)) (now (kappa .entry)) (now («k_ij» .entry)) (now (x .entry))) t rho) ⌝ }
 {
-    let y = eos::p_dpdrho(eos::blend(n, tc, a, b, kappa, k_ij, x), t, rho);
+    let y = evaluations::p_dpdrho(eos::blend(n, tc, a, b, kappa, k_ij, x), t, rho);
     *r = [y.p, y.dp_drho, y.d2p_drho2];
 }
 
@@ -171,7 +171,7 @@ pub extern "C" fn eos_p_dpdrho_d2pdrho2(
 )
     ensures { λ _. ⌜ now (r .exit) ≡ pressureRow (pDpdrhoD2pdrho2 (blendBy n (now (tc .entry)) (now (a .entry)) (now (b .entry)) (now (kappa .entry)) (now («k_ij» .entry)) (now (x .entry))) t rho) ⌝ }
 {
-    let y = eos::p_dpdrho_d2pdrho2(eos::blend(n, tc, a, b, kappa, k_ij, x), t, rho);
+    let y = evaluations::p_dpdrho_d2pdrho2(eos::blend(n, tc, a, b, kappa, k_ij, x), t, rho);
     *r = [y.p, y.dp_drho, y.d2p_drho2];
 }
 
@@ -189,7 +189,7 @@ pub extern "C" fn eos_chemical_potential(
 ) -> f64
     ensures { λ r. ⌜ r ≡ chemicalPotential (blendBy n (now (tc .entry)) (now (a .entry)) (now (b .entry)) (now (kappa .entry)) (now («k_ij» .entry)) (now (x .entry))) t rho ⌝ }
 {
-    eos::chemical_potential(eos::blend(n, tc, a, b, kappa, k_ij, x), t, rho)
+    evaluations::chemical_potential(eos::blend(n, tc, a, b, kappa, k_ij, x), t, rho)
 }
 
 #[no_mangle]
@@ -207,7 +207,7 @@ pub extern "C" fn eos_criticality_conditions(
 )
     ensures { λ _. ⌜ now (r .exit) ≡ criticalityRow (criticalityConditions (blendBy n (now (tc .entry)) (now (a .entry)) (now (b .entry)) (now (kappa .entry)) (now («k_ij» .entry)) (now (x .entry))) t rho) ⌝ }
 {
-    let y = eos::criticality_conditions(eos::blend(n, tc, a, b, kappa, k_ij, x), t, rho);
+    let y = evaluations::criticality_conditions(eos::blend(n, tc, a, b, kappa, k_ij, x), t, rho);
     *r = [y.l, y.c2, y.dl_dt, y.dl_drho, y.dc2_dt, y.dc2_drho];
 }
 
@@ -226,7 +226,7 @@ pub extern "C" fn eos_stability_condition(
 )
     ensures { λ _. ⌜ now (r .exit) ≡ stabilityRow (stabilityCondition (blendBy n (now (tc .entry)) (now (a .entry)) (now (b .entry)) (now (kappa .entry)) (now («k_ij» .entry)) (now (x .entry))) t rho) ⌝ }
 {
-    let y = eos::stability_condition(eos::blend(n, tc, a, b, kappa, k_ij, x), t, rho);
+    let y = evaluations::stability_condition(eos::blend(n, tc, a, b, kappa, k_ij, x), t, rho);
     *r = [y.f, y.df];
 }
 

@@ -7,7 +7,7 @@ use native.Mathlib.Omega.{arith}
 use Rattle.solver.specs.Search.{Evaluator}
 use Rattle.solver.specs.Evaluated.{evaluated}
 use Rattle.solver.proofs.Rule.{clean-agrees}
-use Rattle.block.specs.View.{view}
+use Rattle.reader.specs.View.{view}
 use Rattle.records.specs.Outcome.{Course, refusedBy, searches, searchEnd, endOf, jobCourse, outcomeOf}
 use Rattle.records.specs.Record.{sealedBytes, sealedOf}
 use Rattle.records.specs.Demand2.{rustEnd, cleanCourse, rustOutcome, cleanJob, rustSealed, cleanRequest, Demand2}

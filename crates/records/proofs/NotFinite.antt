@@ -14,12 +14,12 @@ use Rattle.solver.specs.Evaluated.{evaluated}
 use Rattle.solver_density.proofs.Rule.{density-27, stable-27, spinodal-27, branch-27}
 use Rattle.solver_critical.proofs.Rule.{critical-27, spinodals-27}
 use Rattle.block.specs.declared.types.Conditions.{Conditions}
-use Rattle.block.specs.declared.types.Job.{Job}
-use Rattle.block.specs.declared.types.Task.{Task}
-use Rattle.block.specs.declared.types.Task.the-variants.{Refused, DensityIteration, DensityIterationStable, PressureSpinodal, PressureSpinodalBranch, CriticalPoint, Spinodal}
+use Rattle.reader.specs.declared.types.Job.{Job}
+use Rattle.reader.specs.declared.types.Task.{Task}
+use Rattle.reader.specs.declared.types.Task.the-variants.{Refused, DensityIteration, DensityIterationStable, PressureSpinodal, PressureSpinodalBranch, CriticalPoint, Spinodal}
 use Rattle.block.specs.Numbers.{numbersOf}
-use Rattle.block.specs.View.{taskOf, refused, view}
-use Rattle.block.proofs.ViewLaws.{view-keeps, task-keeps}
+use Rattle.reader.specs.View.{taskOf, refused, view}
+use Rattle.reader.proofs.ViewLaws.{view-keeps, task-keeps}
 use Rattle.records.specs.Outcome.{courseOf, refusedEnd, searchEnd, endOf, outcomeOf}
 use Rattle.records.specs.NotFinite.{notFinite}
 

@@ -8,10 +8,11 @@ use borrow.Author.Tests.{le-leb, eq-eqb}
 use Rattle.buf.specs.Bytes.{bytesOf, zeros, splice, putNum, putU64, putF64}
 use Rattle.buf.proofs.Laws.{splice-append, length-bytesOf, length-zeros}
 use Rattle.schedule.specs.Spans.{kindFits, countFits}
-use Rattle.block.specs.declared.types.Job.{Job}
-use Rattle.block.specs.View.{view}
-use Rattle.block.specs.Alike.{SameBytes, SameNumbers, Alike}
-use Rattle.block.proofs.AlikeLaws.{bytes-alike, numbers-alike}
+use Rattle.reader.specs.declared.types.Job.{Job}
+use Rattle.reader.specs.View.{view}
+use Rattle.block.specs.SameBytes.{SameBytes}
+use Rattle.reader.specs.Alike.{SameNumbers, Alike}
+use Rattle.reader.proofs.AlikeLaws.{bytes-alike, numbers-alike}
 use Rattle.records.specs.declared.types.Outcome.{Outcome}
 use Rattle.records.specs.declared.types.Answered.the-variants.{Written}
 use Rattle.records.specs.Outcome.{outcomeOf}

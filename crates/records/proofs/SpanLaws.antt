@@ -13,12 +13,12 @@ use Rattle.solver.proofs.Spans.{run-most}
 use Rattle.solver_density.proofs.Spans.{density-3101, stable-6204, spinodal-30, branch-30}
 use Rattle.solver_critical.proofs.Spans.{critical-150, spinodal-250}
 use Rattle.block.specs.declared.types.Conditions.{Conditions}
-use Rattle.block.specs.declared.types.Job.{Job}
-use Rattle.block.specs.declared.types.Task.{Task}
-use Rattle.block.specs.declared.types.Task.the-variants.{DensityIteration, DensityIterationStable, PressureSpinodal, PressureSpinodalBranch, CriticalPoint, Spinodal}
+use Rattle.reader.specs.declared.types.Job.{Job}
+use Rattle.reader.specs.declared.types.Task.{Task}
+use Rattle.reader.specs.declared.types.Task.the-variants.{DensityIteration, DensityIterationStable, PressureSpinodal, PressureSpinodalBranch, CriticalPoint, Spinodal}
 use Rattle.block.specs.Numbers.{numbersOf}
-use Rattle.block.specs.View.{initialOf, branchOf, givenOf, taskOf, refused, runBlend, view}
-use Rattle.block.proofs.ViewLaws.{view-keeps}
+use Rattle.reader.specs.View.{initialOf, branchOf, givenOf, taskOf, refused, runBlend, view}
+use Rattle.reader.proofs.ViewLaws.{view-keeps}
 use Rattle.records.specs.Outcome.{Course, courseOf, refusedEnd, searchEnd, endOf, jobCourse, outcomeOf}
 use Rattle.schedule.specs.Spans.{spanOf}
 use Rattle.records.specs.Span.{CourseWithin, refused-within, search-within}

@@ -17,11 +17,11 @@ use Rattle.solver.specs.declared.types.Answer.the-variants.{Found, Refused}
 use Rattle.solver.specs.Answer.{numberOf, statusOf}
 use Rattle.solver.specs.Search.{Evaluator}
 use Rattle.block.specs.declared.types.Conditions.{Conditions}
-use Rattle.block.specs.declared.types.Job.{Job}
-use Rattle.block.specs.declared.types.Task.{Task}
+use Rattle.reader.specs.declared.types.Job.{Job}
+use Rattle.reader.specs.declared.types.Task.{Task}
 use Rattle.block.specs.Numbers.{numbersOf}
-use Rattle.block.specs.View.{taskOf, refused, check, lastChecks, checked, view}
-use Rattle.block.proofs.ViewLaws.{readyJob, task-keeps}
+use Rattle.reader.specs.View.{taskOf, refused, check, lastChecks, checked, view}
+use Rattle.reader.proofs.ViewLaws.{readyJob, task-keeps}
 use Rattle.records.specs.Outcome.{courseOf, refusedEnd, searchEnd, endOf, outcomeOf}
 use Rattle.records.specs.Record.{floatBytes, sealedBytes, sealedOf}
 use Rattle.schedule.specs.Refusals.{Inside}

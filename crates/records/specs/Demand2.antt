@@ -6,8 +6,8 @@ use mathlib.Core.Bool.{Bool, true, false}
 use mathlib.Core.List.{List}
 use Rattle.solver.specs.Search.{Evaluator, run, clean}
 use Rattle.solver.specs.Evaluated.{evaluated}
-use Rattle.block.specs.declared.types.Job.{Job}
-use Rattle.block.specs.View.{view}
+use Rattle.reader.specs.declared.types.Job.{Job}
+use Rattle.reader.specs.View.{view}
 use Rattle.records.specs.declared.types.Outcome.{Outcome}
 use Rattle.records.specs.Outcome.{Course, refusedBy, searches, refusedEnd, searchEnd, jobCourse}
 use Rattle.records.specs.Record.{sealedBytes, sealedOf}

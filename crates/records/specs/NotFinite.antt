@@ -6,8 +6,8 @@ use Rattle.solver_density.specs.Density.{densityIteration}
 use Rattle.solver_density.specs.Spinodal.{pressureSpinodal, pressureSpinodalBranch}
 use Rattle.solver_density.specs.NotFinite.{stableNotFinite}
 use Rattle.solver_critical.specs.NotFinite.{criticalNotFinite, spinodalsNotFinite}
-use Rattle.block.specs.declared.types.Task.{Task}
-use Rattle.block.specs.declared.types.Task.the-variants as Task
+use Rattle.reader.specs.declared.types.Task.{Task}
+use Rattle.reader.specs.declared.types.Task.the-variants as Task
 
 -- "If a pressure, slope, curvature, potential, residual or derivative it yields, or a temperature or density after a step and its floor, isn't finite, and
 -- only then, that search ends with 27", for each kind; a data refusal is none

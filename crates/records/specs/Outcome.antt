@@ -13,9 +13,9 @@ use Rattle.solver_density.specs.Stable.{densityIterationStable}
 use Rattle.solver_density.specs.Spinodal.{pressureSpinodal, pressureSpinodalBranch}
 use Rattle.solver_critical.specs.CriticalPoint.{criticalPoint}
 use Rattle.solver_critical.specs.Spinodal.{spinodal}
-use Rattle.block.specs.declared.types.Job.{Job}
-use Rattle.block.specs.declared.types.Task.{Task}
-use Rattle.block.specs.declared.types.Task.the-variants as Task
+use Rattle.reader.specs.declared.types.Job.{Job}
+use Rattle.reader.specs.declared.types.Task.{Task}
+use Rattle.reader.specs.declared.types.Task.the-variants as Task
 use Rattle.records.specs.declared.types.Outcome.{Outcome}
 
 -- a job is refused by its data, or it is a search

@@ -3,7 +3,7 @@ use Prim.Native.Nat.{ℕ}
 use mathlib.Core.List.{List, _++_}
 use lib.Ieee.{binary64, toBits, Float}
 use Rattle.buf.specs.Bytes.{bytesOf, zeros}
-use Rattle.block.specs.View.{view}
+use Rattle.reader.specs.View.{view}
 use Rattle.records.specs.declared.types.Outcome.{Outcome}
 use Rattle.records.specs.Outcome.{outcomeOf}
 

@@ -10,7 +10,7 @@ use Rattle.block.specs.Pairs.{pairsFit}
 use Rattle.block.specs.Numbers.{numbersOf}
 use Rattle.block.specs.Checks.{componentsFit, interactionsFit, fractionsFit, conditionsFit}
 use Rattle.block.specs.Blend.{blendOf}
-use Rattle.block.specs.View.{runFits}
+use Rattle.reader.specs.View.{runFits}
 use Rattle.schedule.specs.Spans.{spanOf}
 use Rattle.schedule.specs.Refusals.{Inside}
 use Rattle.records.specs.Record.{sealedOf}

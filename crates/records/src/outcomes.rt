@@ -2,8 +2,8 @@
 ghost use mathlib.Core.Path.{_≡_};
 ghost use Rattle.records.specs.Outcome.{refusedEnd, searchEnd, outcomeOf};
 use crate::types::Outcome;
-use block::Job;
-use block::Task;
+use reader::Job;
+use reader::Task;
 use solver::Ran;
 use solver::Values;
 

@@ -33,7 +33,7 @@ pub fn answer(kind: u64, n: u64, block: &[u8], record: &mut [u8]) -> Answered
     if record.len() < 64 {
         return Answered::ShortRecord;
     }
-    let job = block::view(kind, n, block);
+    let job = reader::view(kind, n, block);
     write_sealed(record, run_job(job));
     Answered::Written
 }

@@ -1,7 +1,7 @@
 -- The evaluations of a blend, as a search asks for them. Definitions only.
 use Rattle.eos.specs.declared.types.Blend.{Blend}
-use Rattle.eos.specs.Residual.{pDpdrho, pDpdrhoD2pdrho2, chemicalPotential}
-use Rattle.eos.specs.Critical.{criticalityConditions, stabilityCondition}
+use Rattle.evaluations.specs.Residual.{pDpdrho, pDpdrhoD2pdrho2, chemicalPotential}
+use Rattle.evaluations.specs.Critical.{criticalityConditions, stabilityCondition}
 use Rattle.solver.specs.Search.{Evaluator, slope, curvature, potential, criticality, stability}
 
 unfoldable pub evaluated : Blend → Evaluator

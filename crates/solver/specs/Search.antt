@@ -6,9 +6,9 @@ use mathlib.Core.Bool.{Bool, true, false, cond, _&&_}
 use lib.Ieee.{Float}
 use Rattle.float.specs.Ops.{f0}
 use Rattle.float.specs.Sign.{finiteOf}
-use Rattle.eos.specs.declared.types.Pressure.{Pressure}
-use Rattle.eos.specs.declared.types.Criticality.{Criticality}
-use Rattle.eos.specs.declared.types.Stability.{Stability}
+use Rattle.evaluations.specs.declared.types.Pressure.{Pressure}
+use Rattle.evaluations.specs.declared.types.Criticality.{Criticality}
+use Rattle.evaluations.specs.declared.types.Stability.{Stability}
 use Rattle.solver.specs.declared.types.Values.{Values}
 use Rattle.solver.specs.declared.types.Refusal.{Refusal}
 use Rattle.solver.specs.declared.types.Refusal.the-variants.{NotFinite}

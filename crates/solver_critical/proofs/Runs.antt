@@ -9,9 +9,9 @@ use lib.Seq.{drop-cons}
 use lib.Ieee.{Float}
 use Rattle.float.specs.Ops.{f0}
 use Rattle.eos.specs.declared.types.Blend.{Blend}
-use Rattle.eos.specs.declared.types.Criticality.{Criticality}
-use Rattle.eos.specs.declared.types.Stability.{Stability}
-use Rattle.eos.specs.Critical.{criticalityConditions, stabilityCondition}
+use Rattle.evaluations.specs.declared.types.Criticality.{Criticality}
+use Rattle.evaluations.specs.declared.types.Stability.{Stability}
+use Rattle.evaluations.specs.Critical.{criticalityConditions, stabilityCondition}
 use Rattle.solver.specs.declared.types.Values.{Values}
 use Rattle.solver.specs.declared.types.Refusal.{Refusal}
 use Rattle.solver.specs.declared.types.Refusal.the-variants.{NotConverged, Supercritical}

@@ -3,8 +3,8 @@ use mathlib.Core.Path.{_≡_, refl, ap, _∙_}
 use mathlib.Core.Bool.{Bool, true, false, cond, _&&_}
 use lib.Ieee.{Float, lt}
 use Rattle.float.specs.Sign.{finiteOf, absOf}
-use Rattle.eos.specs.declared.types.Criticality.{Criticality}
-use Rattle.eos.specs.declared.types.Stability.{Stability}
+use Rattle.evaluations.specs.declared.types.Criticality.{Criticality}
+use Rattle.evaluations.specs.declared.types.Stability.{Stability}
 use Rattle.linear.specs.declared.types.Solved.{Solved}
 use Rattle.linear.specs.declared.types.Solved.the-variants.{Delta, ZeroPivot}
 use Rattle.solver.specs.Decimals.{d1e-8}

@@ -6,7 +6,7 @@ use lib.ListN.{getD}
 use lib.Ieee.{Float, lt}
 use Rattle.float.specs.Ops.{_⊖_, _⊗_, _⊘_, f0}
 use Rattle.float.specs.Sign.{absOf, maxOf}
-use Rattle.eos.specs.declared.types.Criticality.{Criticality}
+use Rattle.evaluations.specs.declared.types.Criticality.{Criticality}
 use Rattle.linear.specs.declared.types.Solved.{Solved}
 use Rattle.linear.specs.declared.types.Solved.the-variants.{Delta, ZeroPivot}
 use Rattle.linear.specs.Linear.{solve2, normOf}

@@ -4,7 +4,7 @@ use mathlib.Core.Bool.{cond}
 use lib.Ieee.{Float, lt}
 use Rattle.float.specs.Ops.{_⊖_, _⊗_, _⊘_, f0, f2}
 use Rattle.float.specs.Sign.{absOf}
-use Rattle.eos.specs.declared.types.Stability.{Stability}
+use Rattle.evaluations.specs.declared.types.Stability.{Stability}
 use Rattle.solver.specs.Decimals.{d0·03, d1e-5, d1e-8}
 use Rattle.solver.specs.declared.types.DensityInitialization.{DensityInitialization}
 use Rattle.solver.specs.declared.types.DensityInitialization.the-variants.{Vapor, Liquid, InitialDensity}

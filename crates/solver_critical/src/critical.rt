@@ -10,7 +10,7 @@ use crate::types::CriticalOutcome;
 use crate::types::Point;
 use crate::types::Start;
 use eos::Blend;
-use eos::Criticality;
+use evaluations::Criticality;
 use linear::Solved;
 use solver::Answer;
 use solver::Ran;
@@ -166,7 +166,7 @@ fn critical_point_hkm(blend: Blend, maxdensity: f64, t: f64, rho: f64) -> Ran
     while 0 < left {
         left -= 1;
         evaluations += 1;
-        let y = eos::criticality_conditions(blend, p.t, p.rho);
+        let y = evaluations::criticality_conditions(blend, p.t, p.rho);
         let outcome = critical_round(maxdensity, p, y);
         match outcome {
             CriticalOutcome::End(answer) => {
@@ -203,7 +203,7 @@ fn by_trials(blend: Blend, maxdensity: f64, rho: f64) -> Ran
         while 0 < left {
             left -= 1;
             evaluations += 1;
-            let y = eos::criticality_conditions(blend, p.t, p.rho);
+            let y = evaluations::criticality_conditions(blend, p.t, p.rho);
             let outcome = critical_round(maxdensity, p, y);
             match outcome {
                 CriticalOutcome::End(end) => match end {

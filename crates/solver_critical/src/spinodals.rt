@@ -12,7 +12,7 @@ use crate::critical::floor;
 use crate::types::StabilityOutcome;
 use crate::types::Start;
 use eos::Blend;
-use eos::Stability;
+use evaluations::Stability;
 use solver::Answer;
 use solver::DensityInitialization;
 use solver::Ran;
@@ -111,7 +111,7 @@ fn calculate_spinodal(
     while 0 < left {
         left -= 1;
         evaluations += 1;
-        let y = eos::stability_condition(blend, temperature, rho);
+        let y = evaluations::stability_condition(blend, temperature, rho);
         let outcome = stability_round(maxdensity, rho, y);
         match outcome {
             StabilityOutcome::End(answer) => {

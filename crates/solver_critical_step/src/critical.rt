@@ -44,7 +44,7 @@ fn hkm_next(blend: Blend, maxdensity: f64, spot: HkmSpot) -> HkmPlace
     ensures { λ r. ⌜ r ≡ hkmNext maxdensity (evaluated blend) spot ⌝ }
 {
     let p = spot.p;
-    let y = eos::criticality_conditions(blend, p.t, p.rho);
+    let y = evaluations::criticality_conditions(blend, p.t, p.rho);
     hkm_on(
         spot.rounds,
         solver_critical::critical_round(maxdensity, p, y),

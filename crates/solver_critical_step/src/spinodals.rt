@@ -46,7 +46,7 @@ fn stability_next(blend: Blend, maxdensity: f64, t: f64, spot: StabilitySpot) ->
     ensures { λ r. ⌜ r ≡ stabilityNext maxdensity t (evaluated blend) spot ⌝ }
 {
     let rho = spot.rho;
-    let y = eos::stability_condition(blend, t, rho);
+    let y = evaluations::stability_condition(blend, t, rho);
     stability_on(
         spot.rounds,
         solver_critical::stability_round(maxdensity, rho, y),

@@ -5,7 +5,7 @@ use mathlib.Core.Bool.{Bool, true, false, cond, not, _&&_}
 use lib.Ieee.{Float, lt, le}
 use Rattle.float.specs.Ops.{_⊗_, f0}
 use Rattle.float.specs.Sign.{negativeOf, finiteOf, absOf}
-use Rattle.eos.specs.declared.types.Pressure.{Pressure}
+use Rattle.evaluations.specs.declared.types.Pressure.{Pressure}
 use Rattle.solver.specs.Decimals.{d1e-8}
 use Rattle.solver.specs.declared.types.DensityInitialization.{DensityInitialization}
 use Rattle.solver.specs.declared.types.DensityInitialization.the-variants.{Vapor, Liquid}

@@ -7,8 +7,8 @@ use lib.Ieee.{Float, lt, le}
 use Rattle.float.specs.Ops.{_⊗_, f0}
 use Rattle.float.specs.Sign.{finiteOf}
 use Rattle.eos.specs.declared.types.Blend.{Blend}
-use Rattle.eos.specs.declared.types.Pressure.{Pressure}
-use Rattle.eos.specs.Residual.{pDpdrho, pDpdrhoD2pdrho2, chemicalPotential}
+use Rattle.evaluations.specs.declared.types.Pressure.{Pressure}
+use Rattle.evaluations.specs.Residual.{pDpdrho, pDpdrhoD2pdrho2, chemicalPotential}
 use Rattle.solver.specs.declared.types.DensityInitialization.the-variants.{Vapor, Liquid}
 use Rattle.solver.specs.declared.types.Values.{Values}
 use Rattle.solver.specs.declared.types.Refusal.{Refusal}

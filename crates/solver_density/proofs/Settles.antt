@@ -4,7 +4,7 @@ use mathlib.Core.Bool.{Bool, true, false, cond, _&&_}
 use lib.Ieee.{Float}
 use Rattle.float.specs.Ops.{_⊖_}
 use Rattle.float.specs.Sign.{finiteOf, negativeOf}
-use Rattle.eos.specs.declared.types.Pressure.{Pressure}
+use Rattle.evaluations.specs.declared.types.Pressure.{Pressure}
 use Rattle.solver.specs.declared.types.Refusal.the-variants.{NotFinite}
 use Rattle.solver.specs.declared.types.Answer.{Answer}
 use Rattle.solver.specs.declared.types.Answer.the-variants.{Refused}

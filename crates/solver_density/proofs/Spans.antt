@@ -4,7 +4,7 @@ use native.Mathlib.Omega.{arith}
 use lib.Ieee.{Float, lt, le}
 use Rattle.float.specs.Ops.{_⊗_, f0}
 use Rattle.float.specs.Sign.{negativeOf}
-use Rattle.eos.specs.declared.types.Pressure.{Pressure}
+use Rattle.evaluations.specs.declared.types.Pressure.{Pressure}
 use Rattle.solver.specs.declared.types.DensityInitialization.{DensityInitialization}
 use Rattle.solver.specs.declared.types.DensityInitialization.the-variants.{Vapor, Liquid}
 use Rattle.solver.specs.declared.types.Answer.{Answer}

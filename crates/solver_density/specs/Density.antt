@@ -4,7 +4,7 @@ use mathlib.Core.Bool.{Bool, cond, not, _&&_}
 use lib.Ieee.{Float, neg, lt, le}
 use Rattle.float.specs.Ops.{_⊕_, _⊖_, _⊗_, _⊘_, f0}
 use Rattle.float.specs.Sign.{negativeOf, absOf, maxOf, minOf}
-use Rattle.eos.specs.declared.types.Pressure.{Pressure}
+use Rattle.evaluations.specs.declared.types.Pressure.{Pressure}
 use Rattle.solver.specs.Decimals.{d0·05, d0·075, d0·95, d0·15, d0·8, d0·85, d0·98, d0·001, d1·1, d1e-12, d1e-14}
 use Rattle.solver.specs.declared.types.DensityInitialization.{DensityInitialization}
 use Rattle.solver.specs.declared.types.DensityInitialization.the-variants.{Vapor, Liquid, InitialDensity}

@@ -4,7 +4,7 @@ use mathlib.Core.Bool.{Bool, cond}
 use lib.Ieee.{Float, neg, lt, le}
 use Rattle.float.specs.Ops.{_⊕_, _⊖_, _⊗_, _⊘_, f0}
 use Rattle.float.specs.Sign.{finiteOf, absOf, signumOf, maxOf, minOf}
-use Rattle.eos.specs.declared.types.Pressure.{Pressure}
+use Rattle.evaluations.specs.declared.types.Pressure.{Pressure}
 use Rattle.solver.specs.Decimals.{d0·05, d0·95, d0·8, d0·001, d1e-8}
 use Rattle.solver.specs.declared.types.Values.{Values}
 use Rattle.solver.specs.declared.types.Refusal.the-variants.{StartNotPositive, NotConverged, WrongBranch}

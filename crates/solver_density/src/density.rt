@@ -18,7 +18,7 @@ use crate::types::Detour;
 use crate::types::Nearest;
 use crate::types::SlopeOutcome;
 use eos::Blend;
-use eos::Pressure;
+use evaluations::Pressure;
 use solver::Answer;
 use solver::DensityInitialization;
 use solver::Ran;
@@ -277,7 +277,7 @@ fn detour(blend: Blend, c: Conditions, way: Detour) -> Ran
 fn unstable(blend: Blend, c: Conditions, rho: f64, error: f64) -> Ran
     ensures { λ r. ⌜ r ≡ run finiteOf (evaluated blend) 0 (unstableTree c rho error) ⌝ }
 {
-    let y = eos::p_dpdrho_d2pdrho2(blend, c.temperature, rho);
+    let y = evaluations::p_dpdrho_d2pdrho2(blend, c.temperature, rho);
     if !all_finite(y) {
         return Ran {
             answer: Answer::Refused(Refusal::NotFinite),
@@ -304,7 +304,7 @@ fn iterate(blend: Blend, c: Conditions, rounds: u64, start: f64) -> Ran
     'iteration: while 0 < left {
         left -= 1;
         evaluations += 1;
-        let y = eos::p_dpdrho(blend, temperature, rho);
+        let y = evaluations::p_dpdrho(blend, temperature, rho);
         let outcome = slope_round(c, rho, y);
         match outcome {
             SlopeOutcome::NotFinite => {
@@ -358,7 +358,7 @@ pub fn density_search(blend: Blend, c: Conditions) -> Ran
             evaluations: 0,
         };
     }
-    let y = eos::p_dpdrho(blend, c.temperature, start);
+    let y = evaluations::p_dpdrho(blend, c.temperature, start);
     let outcome = slope_round(c, start, y);
     match outcome {
         SlopeOutcome::NotFinite => Ran {

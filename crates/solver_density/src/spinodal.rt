@@ -9,7 +9,7 @@ ghost use Rattle.solver_density.specs.Rounds.{finite3, testedOutcome, sp
 use crate::types::Branch;
 use crate::types::Outcome;
 use eos::Blend;
-use eos::Pressure;
+use evaluations::Pressure;
 use solver::Answer;
 use solver::Ran;
 use solver::Refusal;
@@ -104,7 +104,7 @@ pub fn spinodal_search(blend: Blend, maxdensity: f64, temperature: f64, start: f
     while 0 < left {
         left -= 1;
         evaluations += 1;
-        let y = eos::p_dpdrho_d2pdrho2(blend, temperature, rho);
+        let y = evaluations::p_dpdrho_d2pdrho2(blend, temperature, rho);
         let outcome = spinodal_round(maxdensity, rho, y);
         match outcome {
             Outcome::End(answer) => {

@@ -27,14 +27,14 @@ pub fn lower_potential(liquid: Values, vapor: Values, of_liquid: f64, of_vapor: 
 fn potentials(blend: Blend, temperature: f64, liquid: Values, vapor: Values) -> Ran
     ensures { λ r. ⌜ r ≡ run finiteOf (evaluated blend) 0 (potentialsTree temperature liquid vapor) ⌝ }
 {
-    let of_liquid = eos::chemical_potential(blend, temperature, liquid.first);
+    let of_liquid = evaluations::chemical_potential(blend, temperature, liquid.first);
     if !float::is_finite(of_liquid) {
         return Ran {
             answer: Answer::Refused(Refusal::NotFinite),
             evaluations: 1,
         };
     }
-    let of_vapor = eos::chemical_potential(blend, temperature, vapor.first);
+    let of_vapor = evaluations::chemical_potential(blend, temperature, vapor.first);
     if !float::is_finite(of_vapor) {
         return Ran {
             answer: Answer::Refused(Refusal::NotFinite),

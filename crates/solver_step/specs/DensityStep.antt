@@ -3,7 +3,7 @@ use Prim.Native.Nat.{ℕ, zero, suc}
 use mathlib.Core.Bool.{cond}
 use lib.Ieee.{Float, le}
 use Rattle.float.specs.Ops.{f0}
-use Rattle.eos.specs.declared.types.Pressure.{Pressure}
+use Rattle.evaluations.specs.declared.types.Pressure.{Pressure}
 use Rattle.solver.specs.declared.types.Values.{Values}
 use Rattle.solver.specs.declared.types.Refusal.the-variants.{StartNotPositive, NotConverged, NotFinite}
 use Rattle.solver.specs.declared.types.Answer.{Answer}

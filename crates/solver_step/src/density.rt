@@ -11,7 +11,7 @@ use crate::types::DensitySpot;
 use crate::types::Phase;
 use crate::types::SpinodalPlace;
 use eos::Blend;
-use eos::Pressure;
+use evaluations::Pressure;
 use solver::Answer;
 use solver::Refusal;
 use solver_density::Both;
@@ -159,15 +159,15 @@ pub fn density_next(blend: Blend, c: Conditions, spot: DensitySpot) -> DensityPl
     let start = c.start;
     match spot {
         DensitySpot::First => {
-            let y = eos::p_dpdrho(blend, t, start);
+            let y = evaluations::p_dpdrho(blend, t, start);
             first_on(c, solver_density::slope_round(c, start, y))
         }
         DensitySpot::Slope { left, rho } => {
-            let y = eos::p_dpdrho(blend, t, rho);
+            let y = evaluations::p_dpdrho(blend, t, rho);
             slope_on(left, rho, solver_density::slope_round(c, rho, y))
         }
         DensitySpot::Curvature { left, rho, error } => {
-            let y = eos::p_dpdrho_d2pdrho2(blend, t, rho);
+            let y = evaluations::p_dpdrho_d2pdrho2(blend, t, rho);
             curvature_on(c, left, rho, error, y)
         }
         DensitySpot::NearestSpinodal { left, way, at } => {

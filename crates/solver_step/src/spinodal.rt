@@ -43,7 +43,7 @@ pub fn spinodal_next(blend: Blend, maxdensity: f64, t: f64, spot: SpinodalSpot) 
     ensures { λ r. ⌜ r ≡ spinodalNext maxdensity t (evaluated blend) spot ⌝ }
 {
     let rho = spot.rho;
-    let y = eos::p_dpdrho_d2pdrho2(blend, t, rho);
+    let y = evaluations::p_dpdrho_d2pdrho2(blend, t, rho);
     spinodal_on(
         spot.rounds,
         solver_density::spinodal_round(maxdensity, rho, y),

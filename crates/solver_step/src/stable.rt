@@ -95,7 +95,11 @@ pub fn stable_next(blend: Blend, maxdensity: f64, t: f64, p: f64, spot: StableSp
             vapor_search_on(liquid, density_next(blend, c, at))
         }
         StableSpot::LiquidPotential { liquid, vapor } => {
-            liquid_potential_on(liquid, vapor, eos::chemical_potential(blend, t, liquid))
+            liquid_potential_on(
+                liquid,
+                vapor,
+                evaluations::chemical_potential(blend, t, liquid),
+            )
         }
         StableSpot::VaporPotential {
             liquid,
@@ -105,7 +109,7 @@ pub fn stable_next(blend: Blend, maxdensity: f64, t: f64, p: f64, spot: StableSp
             liquid,
             vapor,
             potential,
-            eos::chemical_potential(blend, t, vapor),
+            evaluations::chemical_potential(blend, t, vapor),
         ),
     }
 }

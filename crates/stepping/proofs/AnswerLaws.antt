@@ -7,8 +7,8 @@ use mathlib.Core.List.{List}
 use lib.ListN.{length}
 use borrow.Author.Tests.{le-leb, eq-eqb}
 use Rattle.buf.specs.Bytes.{splice}
-use Rattle.block.specs.declared.types.Job.{Job}
-use Rattle.block.specs.View.{view}
+use Rattle.reader.specs.declared.types.Job.{Job}
+use Rattle.reader.specs.View.{view}
 use Rattle.records.specs.declared.types.Outcome.{Outcome}
 use Rattle.records.specs.declared.types.Answered.the-variants.{Written}
 use Rattle.records.specs.Record.{sealedBytes, sealedAt}

@@ -9,8 +9,8 @@ use lib.Ieee.Bits.{ofBits-fits}
 use lib.Ieee.Fits.{cond-fits, sub-fits, mul-fits}
 use Rattle.float.specs.Ops.{_⊗_, f0}
 use Rattle.float.specs.Sign.{maxOf, absOf, finiteOf}
-use Rattle.eos.specs.declared.types.Criticality.{Criticality}
-use Rattle.eos.specs.declared.types.Stability.{Stability}
+use Rattle.evaluations.specs.declared.types.Criticality.{Criticality}
+use Rattle.evaluations.specs.declared.types.Stability.{Stability}
 use Rattle.linear.specs.declared.types.Solved.{Solved}
 use Rattle.linear.specs.declared.types.Solved.the-variants.{Delta, ZeroPivot}
 use Rattle.solver.specs.Decimals.{d1e-4, d1e-5, d1e-8}

@@ -6,7 +6,7 @@ use lib.Ieee.{Float, binary64, fits, isNan, lt, le}
 use lib.Ieee.Fits.{add-fits, sub-fits, mul-fits, div-fits, cond-fits}
 use Rattle.float.specs.Ops.{_⊖_, _⊗_, f0}
 use Rattle.float.specs.Sign.{finiteOf, negativeOf, absOf, minOf}
-use Rattle.eos.specs.declared.types.Pressure.{Pressure}
+use Rattle.evaluations.specs.declared.types.Pressure.{Pressure}
 use Rattle.solver.specs.Decimals.{d0·15, d0·8, d0·85, d1·1, d1e-8}
 use Rattle.solver.specs.declared.types.DensityInitialization.{DensityInitialization}
 use Rattle.solver.specs.declared.types.DensityInitialization.the-variants as Initial

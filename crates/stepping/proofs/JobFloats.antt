@@ -16,15 +16,15 @@ use Rattle.solver_state.specs.declared.types.State.{State}
 use Rattle.solver_state.specs.declared.types.Job as Search
 use Rattle.solver_state.specs.State as Steps
 use Rattle.block.specs.declared.types.Conditions.{Conditions}
-use Rattle.block.specs.declared.types.Task.{Task}
-use Rattle.block.specs.declared.types.Task.the-variants as Task
-use Rattle.block.specs.declared.types.Job.{Job}
+use Rattle.reader.specs.declared.types.Task.{Task}
+use Rattle.reader.specs.declared.types.Task.the-variants as Task
+use Rattle.reader.specs.declared.types.Job.{Job}
 use Rattle.block.specs.Pairs.{offsetOf, conditions}
 use Rattle.block.specs.Numbers.{usesPressure, usesStart, choiceOf, pressureOf, conditionsOf, numbersOf}
 use Rattle.block.specs.Numbers as Read
 use Rattle.block.specs.Checks.{plusZero}
-use Rattle.block.specs.View.{initialOf, givenOf, taskOf, refused, view}
-use Rattle.block.proofs.ViewLaws.{view-keeps, task-keeps}
+use Rattle.reader.specs.View.{initialOf, givenOf, taskOf, refused, view}
+use Rattle.reader.proofs.ViewLaws.{view-keeps, task-keeps}
 use Rattle.stepping.specs.declared.types.Work.the-variants as Work
 use Rattle.stepping.specs.Stepping.{workOf, refusedState, startBy, startOf, uncounted, stepBy, stepOf}
 use Rattle.stepping.specs.Storable.{FloatsStorable}

@@ -20,8 +20,8 @@ use Rattle.solver_state.specs.State as Steps
 use Rattle.solver_state.specs.State.{going, densityStep, stableStep, spinodalStep, branchStep, criticalStep, spinodalsStep}
 use Rattle.solver_state.proofs.StateLaw.{step-law}
 use Rattle.solver_state.proofs.Ranges.{ranges-kept}
-use Rattle.block.specs.declared.types.Job as Block
-use Rattle.block.specs.View.{view}
+use Rattle.reader.specs.declared.types.Job as Block
+use Rattle.reader.specs.View.{view}
 use Rattle.schedule.proofs.Tests.{left-true, right-true}
 use Rattle.stepping.specs.declared.types.Work.{Work}
 use Rattle.stepping.specs.declared.types.Work.the-variants as Work

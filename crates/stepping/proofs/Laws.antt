@@ -19,9 +19,9 @@ use Rattle.solver.proofs.Steps.{finishes}
 use Rattle.solver_density.specs.Density.{densityIteration}
 use Rattle.solver_state.specs.declared.types.State.{State}
 use Rattle.solver_state.specs.State.{searchOf, leftOf, going}
-use Rattle.block.specs.declared.types.Task.{Task}
-use Rattle.block.specs.declared.types.Task.the-variants as Task
-use Rattle.block.specs.View.{view}
+use Rattle.reader.specs.declared.types.Task.{Task}
+use Rattle.reader.specs.declared.types.Task.the-variants as Task
+use Rattle.reader.specs.View.{view}
 use Rattle.records.specs.Outcome.{Course, refusedBy, searches, courseOf, refusedEnd, searchEnd, endOf, outcomeOf}
 use Rattle.records.specs.Record.{sealedBytes, sealedOf}
 use Rattle.records.specs.Span.{CourseWithin, search-within}

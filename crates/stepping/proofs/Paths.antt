@@ -32,7 +32,7 @@ use Rattle.solver_state.specs.declared.types.State.{State}
 use Rattle.solver_state.specs.State.{searchOf, spanOf, going, startOf, densityStep, stableStep, spinodalStep, branchStep, criticalStep, spinodalsStep, stepOf}
 use Rattle.solver_state.proofs.StateLaw.{step-law, begins, within-span}
 use Rattle.solver_state.proofs.Ranges.{ranges-kept, starts-in-ranges}
-use Rattle.block.specs.declared.types.Job as Block
+use Rattle.reader.specs.declared.types.Job as Block
 use Rattle.stepping.specs.declared.types.Work.{Work}
 use Rattle.stepping.specs.declared.types.Work.the-variants as Work
 use Rattle.stepping.specs.Stepping as Stepping

@@ -5,10 +5,10 @@ use lib.Ieee.{Float}
 use Rattle.eos.specs.declared.types.Blend.{Blend}
 use Rattle.eos.specs.Cubic.{maxDensity}
 use Rattle.solver.specs.Evaluated.{evaluated}
-use Rattle.block.specs.declared.types.Job.{Job}
-use Rattle.block.specs.declared.types.Task.{Task}
-use Rattle.block.specs.declared.types.Task.the-variants as Task
-use Rattle.block.specs.Reading.{notRefused, Reads}
+use Rattle.reader.specs.declared.types.Job.{Job}
+use Rattle.reader.specs.declared.types.Task.{Task}
+use Rattle.reader.specs.declared.types.Task.the-variants as Task
+use Rattle.reader.specs.Reading.{notRefused, Reads}
 use Rattle.solver_state.specs.declared.types.State.{State}
 use Rattle.stepping.specs.declared.types.Work.{Work}
 use Rattle.stepping.specs.Stepping.{workOf, startBy, startOf, stepBy, stepOf}

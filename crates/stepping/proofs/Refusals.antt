@@ -6,11 +6,11 @@ use mathlib.Core.List.{List}
 use lib.Dec.{leb}
 use lib.Ieee.{Float}
 use Rattle.block.specs.declared.types.Conditions.{Conditions}
-use Rattle.block.specs.declared.types.Job.{Job}
-use Rattle.block.specs.declared.types.Task.{Task}
+use Rattle.reader.specs.declared.types.Job.{Job}
+use Rattle.reader.specs.declared.types.Task.{Task}
 use Rattle.block.specs.Numbers.{numbersOf}
-use Rattle.block.specs.View.{taskOf, refused, view}
-use Rattle.block.proofs.ViewLaws.{OfData, request-keeps, task-keeps}
+use Rattle.reader.specs.View.{taskOf, refused, view}
+use Rattle.reader.proofs.ViewLaws.{OfData, request-keeps, task-keeps}
 use Rattle.stepping.specs.declared.types.Work.{Work}
 use Rattle.stepping.specs.declared.types.Work.the-variants as Work
 use Rattle.stepping.specs.Stepping.{workOf}

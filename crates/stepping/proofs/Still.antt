@@ -13,7 +13,7 @@ use Rattle.solver_state.specs.declared.types.Job.{Job}
 use Rattle.solver_state.specs.declared.types.Job.the-variants.{Density, StableDensity, PressureSpinodal, BranchSpinodal, CriticalPoint, StabilitySpinodals}
 use Rattle.solver_state.specs.declared.types.State.{State}
 use Rattle.solver_state.specs.State.{densityStep, stableStep, spinodalStep, branchStep, criticalStep, spinodalsStep, stepOf}
-use Rattle.block.specs.declared.types.Job as Block
+use Rattle.reader.specs.declared.types.Job as Block
 use Rattle.stepping.specs.declared.types.Work.{Work}
 use Rattle.stepping.specs.declared.types.Work.the-variants as Work
 use Rattle.stepping.specs.Stepping as Stepping

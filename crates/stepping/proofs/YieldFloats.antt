@@ -2,7 +2,7 @@
 use lib.Ieee.{binary64}
 use lib.Ieee.Fits.{add-fits, mul-fits}
 use Rattle.eos.specs.declared.types.Blend.{Blend}
-use Rattle.eos.specs.Residual.{pressureFrom, curvatureFrom, pDpdrho, pDpdrhoD2pdrho2, chemicalPotential}
+use Rattle.evaluations.specs.Residual.{pressureFrom, curvatureFrom, pDpdrho, pDpdrhoD2pdrho2, chemicalPotential}
 use Rattle.solver.specs.Evaluated.{evaluated}
 use Rattle.stepping.proofs.Yields.{YieldsFit}
 

@@ -3,7 +3,7 @@ use mathlib.Core.Path.{_≡_}
 use Prim.Native.Nat.{ℕ}
 use mathlib.Core.Bool.{true}
 use mathlib.Core.List.{List}
-use Rattle.block.specs.View.{view}
+use Rattle.reader.specs.View.{view}
 use Rattle.records.specs.Record.{sealedBytes, sealedOf}
 use Rattle.schedule.specs.Spans.{spanOf}
 use Rattle.stepping.specs.Stepping.{stateFits}

@@ -10,8 +10,8 @@ use Rattle.float.specs.Sign.{finiteOf}
 use Rattle.eos.specs.Cubic.{maxDensity}
 use Rattle.solver.specs.Search.{Evaluator, run, Going, after, fresh}
 use Rattle.solver.specs.Evaluated.{evaluated}
-use Rattle.block.specs.declared.types.Job.{Job}
-use Rattle.block.specs.View.{view}
+use Rattle.reader.specs.declared.types.Job.{Job}
+use Rattle.reader.specs.View.{view}
 use Rattle.records.specs.declared.types.Outcome.{Outcome}
 use Rattle.records.specs.Outcome.{Course, refusedBy, searches, courseOf}
 use Rattle.schedule.specs.Spans.{kindFits, countFits}

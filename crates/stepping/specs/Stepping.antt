@@ -13,9 +13,9 @@ use Rattle.solver_density.specs.Density.{conditionsOf}
 use Rattle.solver_state.specs.declared.types.State.{State}
 use Rattle.solver_state.specs.declared.types.Job.the-variants as Search
 use Rattle.solver_state.specs.State as Steps
-use Rattle.block.specs.declared.types.Job.{Job}
-use Rattle.block.specs.declared.types.Task.{Task}
-use Rattle.block.specs.declared.types.Task.the-variants as Task
+use Rattle.reader.specs.declared.types.Job.{Job}
+use Rattle.reader.specs.declared.types.Task.{Task}
+use Rattle.reader.specs.declared.types.Task.the-variants as Task
 use Rattle.stepping.specs.declared.types.Work.{Work}
 use Rattle.stepping.specs.declared.types.Work.the-variants as Work
 use Rattle.stepping.specs.declared.types.Ended.{Ended}

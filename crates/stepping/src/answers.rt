@@ -5,7 +5,7 @@ ghost use Rattle.stepping.specs.States.{stateAfter, outcomeAt};
 use crate::jobs::result;
 use crate::jobs::start;
 use crate::jobs::step;
-use block::Job;
+use reader::Job;
 use records::Answered;
 use records::Outcome;
 use solver_state::State;
@@ -52,7 +52,7 @@ pub fn answer(kind: u64, n: u64, block: &[u8], record: &mut [u8]) -> Answered
     if record.len() < 64 {
         return Answered::ShortRecord;
     }
-    let job = block::view(kind, n, block);
+    let job = reader::view(kind, n, block);
     let state = after(job, schedule::span_of(kind));
     records::write_sealed(record, outcome(state));
     Answered::Written

@@ -1,14 +1,14 @@
 // A job of a request block: its first state, one evaluation further, the range of a stored state, and its end.
 ghost use mathlib.Core.Path.{_≡_};
 ghost use mathlib.Core.Bool.{cond};
-ghost use Rattle.block.specs.View.{view};
+ghost use Rattle.reader.specs.View.{view};
 ghost use Rattle.solver.specs.Evaluated.{evaluated};
 ghost use Rattle.stepping.specs.Stepping.{workOf, refusedState, startBy, startOf, stepBy, stepOf, atEnd, dataRefusal, countersFit, resultOf};
 use crate::types::Ended;
 use crate::types::Work;
-use block::Job;
-use block::Task;
 use eos::Blend;
+use reader::Job;
+use reader::Task;
 use solver::Counters;
 use solver::Numbers;
 use solver::Values;
@@ -154,7 +154,7 @@ pub fn step_request(kind: u64, n: u64, block: &[u8], begun: bool, stored: State)
     let mut kappa = [0.0; 8];
     let mut k_ij = [0.0; 64];
     let mut x = [0.0; 8];
-    let task = block::read(
+    let task = reader::read(
         kind,
         n,
         block,
@@ -166,7 +166,7 @@ pub fn step_request(kind: u64, n: u64, block: &[u8], begun: bool, stored: State)
         &mut x,
     );
     let blend = eos::blend(
-        block::searched_count(kind, n),
+        reader::searched_count(kind, n),
         &tc,
         &a,
         &b,

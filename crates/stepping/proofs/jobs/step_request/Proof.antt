@@ -1,5 +1,5 @@
 -- `stepping::jobs::step_request` meets its contract. Assumes nothing.
-use Rattle.block.specs.View.{view}
+use Rattle.reader.specs.View.{view}
 use Rattle.stepping.proofs.ReadSteps.{step-read}
 use borrow.Author.Needs.{needs}
 use Rattle.stepping.proofs.jobs.step_request.Statement.{statement}

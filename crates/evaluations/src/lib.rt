@@ -1,0 +1,14 @@
+// The evaluations that searches ask for, each equal to one definition: pressures and potentials along the density, the
+// conditions of criticality and of stability.
+mod critical_point;
+mod residual;
+mod types;
+
+pub use crate::critical_point::criticality_conditions;
+pub use crate::critical_point::stability_condition;
+pub use crate::residual::chemical_potential;
+pub use crate::residual::p_dpdrho;
+pub use crate::residual::p_dpdrho_d2pdrho2;
+pub use crate::types::Criticality;
+pub use crate::types::Pressure;
+pub use crate::types::Stability;

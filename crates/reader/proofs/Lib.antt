@@ -1,0 +1,3 @@
+pub mod BlendLaws
+pub mod AlikeLaws
+pub mod ViewLaws

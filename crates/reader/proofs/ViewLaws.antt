@@ -1,0 +1,108 @@
+-- What holds of every refusal and of the job that passes every check holds of every view: the walk along the checks, once. Likewise along the kinds. Assumes nothing.
+use mathlib.Core.Path.{_≡_, refl, ap, _∙_}
+use Prim.Native.Nat.{ℕ}
+use mathlib.Core.Bool.{Bool, true, false, cond, _&&_, false≢true}
+use mathlib.Core.List.{List, [], _∷_}
+use lib.ListN.{length}
+use lib.Dec.{leb, eqb}
+use borrow.Author.Tests.{eq-eqb}
+use types.Run.{OneOf, miss}
+use denote.Enum.Declared.{tagOf}
+use Rattle.schedule.specs.Spans.{kindFits, countFits}
+use Rattle.schedule.proofs.Tests.{right-true}
+use Rattle.eos.specs.declared.types.Blend.{Blend}
+use Rattle.block.specs.declared.types.Conditions.{Conditions}
+use Rattle.block.specs.declared.types.Numbers.{Numbers}
+use Rattle.reader.specs.declared.types.Task.{Task}
+use Rattle.reader.specs.declared.types.Task.the-variants.{Refused, DensityIteration, DensityIterationStable, PressureSpinodal, PressureSpinodalBranch, CriticalPoint, Spinodal}
+use Rattle.reader.specs.declared.types.Job.{Job}
+use Rattle.block.specs.Pairs.{pairsFit}
+use Rattle.block.specs.Numbers.{numbersOf}
+use Rattle.block.specs.Blend.{blendOf}
+use Rattle.block.specs.Checks.{componentsFit, interactionsFit, fractionsFit, conditionsFit}
+use Rattle.reader.specs.View.{initialOf, branchOf, givenOf, taskOf, refused, check, runBlend, runFits, lastChecks, checked, view}
+use Rattle.reader.specs.Reading.{notRefused}
+use Rattle.reader.proofs.types.Task.{the-type}
+
+-- the job that passes every check
+abbrev pub readyJob : (kind n : ℕ) → Numbers → Job
+readyJob kind n d = record { task = taskOf kind (d .conditions); blend = runBlend kind n d }
+
+-- a number of the data's, 11 to 16
+abbrev pub OfData : ℕ → Type 0
+OfData number = leb 11 number && leb number 16 ≡ true
+
+module _ (P : Job → Type 0) where
+  check-keeps : (ok : Bool) (number : ℕ) (next : Job) → P (refused number) → P next → P (check ok number next)
+  check-keeps true number next r h = h
+  check-keeps false number next r h = r
+
+  -- 11 and on
+  data-keeps : (kind n : ℕ) (s : List ℕ) → ((number : ℕ) → OfData number → P (refused number)) → P (readyJob kind n (numbersOf kind n s))
+      → P (check (pairsFit n s) 11 (checked kind n (numbersOf kind n s)))
+  unfolding checked lastChecks
+  data-keeps kind n s r h =
+      let d = numbersOf kind n s in
+      check-keeps (pairsFit n s) 11 _ (r 11 refl)
+      (check-keeps (componentsFit n (d .coefficients)) 12 _ (r 12 refl)
+      (check-keeps (interactionsFit n (d .interactions)) 13 _ (r 13 refl)
+      (check-keeps (fractionsFit n (d .fractions)) 14 _ (r 14 refl)
+      (check-keeps (conditionsFit kind (d .conditions)) 15 _ (r 15 refl)
+      (check-keeps (runFits kind n (d .conditions) (blendOf n d)) 16 _ (r 16 refl) h)))))
+
+  -- any request; no refusal's number is above 16
+  pub view-keeps : (kind n : ℕ) (s : List ℕ) → ((number : ℕ) → leb number 16 ≡ true → P (refused number)) → P (readyJob kind n (numbersOf kind n s)) → P (view kind n s)
+  unfolding view
+  view-keeps kind n s r h =
+      check-keeps (kindFits kind) 2 _ (r 2 refl)
+      (check-keeps (countFits n) 3 _ (r 3 refl)
+      (check-keeps (eqb (length s) 640) 8 _ (r 8 refl) (data-keeps kind n s (λ number e. r number (right-true (leb 11 number) (leb number 16) e)) h)))
+
+  -- a request that submit accepts is refused by its data alone
+  pub request-keeps : (kind n : ℕ) (s : List ℕ) → kindFits kind ≡ true → countFits n ≡ true → length s ≡ 640 → ((number : ℕ) → OfData number → P (refused number))
+      → P (readyJob kind n (numbersOf kind n s)) → P (view kind n s)
+  unfolding view
+  request-keeps kind n s k c l r h = rw (k, c, eq-eqb (length s) 640 l) (data-keeps kind n s r h)
+
+-- ---- the task of each kind
+
+module _ (P : Task → Type 0) where
+  cond-keeps : (b : Bool) (x y : Task) → P x → P y → P (cond b x y)
+  cond-keeps true x y p q = p
+  cond-keeps false x y p q = q
+
+  pub task-keeps : (kind : ℕ) (c : Conditions) → P (DensityIteration (c .temperature) (c .pressure) (initialOf (c .choice) (c .start))) → P (DensityIterationStable (c .temperature) (c .pressure))
+      → P (PressureSpinodal (c .temperature) (c .start)) → P (PressureSpinodalBranch (c .temperature) (branchOf (c .choice)))
+      → P (CriticalPoint (givenOf (c .temperature)) (givenOf (c .start))) → P (Spinodal (c .temperature)) → P (taskOf kind c)
+  unfolding taskOf
+  task-keeps kind c p₁ p₂ p₃ p₄ p₅ p₆ =
+      cond-keeps (eqb kind 1) _ _ p₁ (cond-keeps (eqb kind 2) _ _ p₂ (cond-keeps (eqb kind 3) _ _ p₃ (cond-keeps (eqb kind 4) _ _ p₄ (cond-keeps (eqb kind 5) _ _ p₅ p₆))))
+
+-- ---- a job that is refused, and one that is not
+
+task-not-refused : (kind : ℕ) (c : Conditions) → notRefused (taskOf kind c) ≡ true
+unfolding notRefused
+task-not-refused kind c = task-keeps (λ (task : Task). notRefused task ≡ true) kind c refl refl refl refl refl refl
+
+-- a refusal says all of the job
+pub view-refused : (kind n : ℕ) (s : List ℕ) (number : ℕ) → Refused number ≡ view kind n s .task → refused number ≡ view kind n s
+unfolding refused notRefused
+view-refused kind n s number =
+    view-keeps (λ (job : Job). Refused number ≡ job .task → refused number ≡ job) kind n s (λ k _ e. let z : number ≡ k = cc in ap refused z)
+    (λ e. absurd (false≢true (ap notRefused e ∙ task-not-refused kind (numbersOf kind n s .conditions))))
+
+-- the task that is left where a match has taken the refusal away
+pub not-refused-left : (task : Task) → OneOf (1 ∷ 2 ∷ 3 ∷ 4 ∷ 5 ∷ 6 ∷ []) (tagOf the-type task) → notRefused task ≡ true
+unfolding notRefused
+not-refused-left (Refused number) h = absurd (miss (1 ∷ 2 ∷ 3 ∷ 4 ∷ 5 ∷ 6 ∷ []) 0 tt h)
+not-refused-left (DensityIteration t p initial) h = refl
+not-refused-left (DensityIterationStable t p) h = refl
+not-refused-left (PressureSpinodal t start) h = refl
+not-refused-left (PressureSpinodalBranch t branch) h = refl
+not-refused-left (CriticalPoint t density) h = refl
+not-refused-left (Spinodal t) h = refl
+
+-- a job from its task and the rows of its blend
+pub view-not-refused : (kind n : ℕ) (s : List ℕ) (task : Task) (rows blend : Blend) → task ≡ view kind n s .task → rows ≡ view kind n s .blend → blend ≡ rows
+    → _≡_ {A = Job} (record { task = task; blend = blend }) (view kind n s)
+view-not-refused kind n s task rows blend et er eb = rw (eb, et, er)

@@ -1,0 +1,57 @@
+-- `reader::requests::task` meets its contract. Assumes nothing.
+use borrow.Author.Needs.{needs}
+use borrow.Author.Tests.{eq-eqb, ne-eqb}
+use Rattle.reader.specs.View.{taskOf}
+use Rattle.reader.proofs.requests.task.Statement.{statement}
+use Rattle.reader.proofs.requests.task.Tie as tie
+
+initial-requires : tie.Need-initial-requires
+initial-requires c κs = search needs
+
+returns : tie.Need-returns
+unfolding taskOf
+returns c = simp (eq-eqb _ _ (c .before .if1 .taken), ← c .initial .ensures)
+
+returns-2 : tie.Need-returns-2
+unfolding taskOf
+returns-2 c = simp (ne-eqb _ _ (c .before .if1 .left), eq-eqb _ _ (c .if2 .taken))
+
+returns-3 : tie.Need-returns-3
+unfolding taskOf
+returns-3 c = simp (ne-eqb _ _ (c .before .before .if1 .left), ne-eqb _ _ (c .before .if2 .left), eq-eqb _ _ (c .if3 .taken))
+
+branch-requires : tie.Need-branch-requires
+branch-requires c κs = search needs
+
+returns-4 : tie.Need-returns-4
+unfolding taskOf
+returns-4 c = simp (ne-eqb _ _ (c .before .before .before .before .if1 .left), ne-eqb _ _ (c .before .before .before .if2 .left), ne-eqb _ _ (c .before .before .if3 .left), eq-eqb _ _ (c .before .if4 .taken), ← c .branch .ensures)
+
+given-requires : tie.Need-given-requires
+given-requires c κs = search needs
+
+given-requires-2 : tie.Need-given-requires-2
+given-requires-2 c κs = search needs
+
+returns-5 : tie.Need-returns-5
+unfolding taskOf
+returns-5 c = simp (ne-eqb _ _ (c .before .before .before .before .before .before .if1 .left), ne-eqb _ _ (c .before .before .before .before .before .if2 .left), ne-eqb _ _ (c .before .before .before .before .if3 .left), ne-eqb _ _ (c .before .before .before .if4 .left), eq-eqb _ _ (c .before .before .if5 .taken), ← c .before .given .ensures, ← c .given2 .ensures)
+
+returns-6 : tie.Need-returns-6
+unfolding taskOf
+returns-6 c = simp (ne-eqb _ _ (c .before .before .before .before .if1 .left), ne-eqb _ _ (c .before .before .before .if2 .left), ne-eqb _ _ (c .before .before .if3 .left), ne-eqb _ _ (c .before .if4 .left), ne-eqb _ _ (c .if5 .left))
+
+pub task-spec : {M : Type 1} → statement M
+task-spec =
+    tie.close
+    (tie.spec
+    initial-requires
+    returns
+    returns-2
+    returns-3
+    branch-requires
+    returns-4
+    given-requires
+    given-requires-2
+    returns-5
+    returns-6)

@@ -1,0 +1,27 @@
+-- What the reader of a request leaves: the task of its job and the rows of the blend that the job searches. Definitions only.
+use mathlib.Core.Path.{_≡_}
+use Prim.Native.Nat.{ℕ}
+use mathlib.Core.Bool.{Bool, true, false, cond}
+use Rattle.eos.specs.declared.types.Blend.{Blend}
+use Rattle.reader.specs.declared.types.Task.{Task}
+use Rattle.reader.specs.declared.types.Task.the-variants.{Refused, DensityIteration, DensityIterationStable, PressureSpinodal, PressureSpinodalBranch, CriticalPoint, Spinodal}
+use Rattle.reader.specs.declared.types.Job.{Job}
+use Rattle.block.specs.Numbers.{readsFractions}
+
+-- a task with a search
+unfoldable pub notRefused : Task → Bool
+notRefused (Refused number) = false
+notRefused (DensityIteration t p initial) = true
+notRefused (DensityIterationStable t p) = true
+notRefused (PressureSpinodal t start) = true
+notRefused (PressureSpinodalBranch t branch) = true
+notRefused (CriticalPoint t density) = true
+notRefused (Spinodal t) = true
+
+-- the job's task, and its blend where it is not refused
+abbrev pub Reads : Job → Task → Blend → Type 0
+Reads job task blend = (task ≡ job .task) × (notRefused task ≡ true → blend ≡ job .blend)
+
+-- how many components the job searches
+unfoldable pub searchedCount : (kind n : ℕ) → ℕ
+searchedCount kind n = cond (readsFractions kind) n 1
