@@ -1,4 +1,4 @@
-//! A blend as both sides take it, and the five evaluations of the crate `eos` beside the oracle's.
+//! A blend as both sides take it, and the five evaluations of the crate `evaluations` beside the oracle's.
 use oracle::{criticality, stability, PengRobinson, PengRobinsonRecord, _chemical_potential};
 
 pub type Eight = [f64; 8];

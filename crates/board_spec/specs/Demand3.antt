@@ -123,7 +123,7 @@ pub record Orderly (run : Calls) : Type 0 where
   pub refused-same : (p : Place run) (number : ℕ) → didAt p .answer ≡ Refused number → (didAt p .board ≡ boardAt p) × (didAt p .buffer ≡ bufferOf (p .call))
   pub look-same : (p : Place run) (queue : ℕ) → p .call ≡ Look queue → didAt p .board ≡ boardAt p
 
--- jobs alike in kind, N and data get the same sealed bytes; data are alike where the job reads the same of both blocks (specs/Alike.antt of `block`)
+-- jobs alike in kind, N and data get the same sealed bytes; data are alike where the job reads the same of both blocks (specs/Alike.antt of `reader`)
 unfoldable pub SealedAlike : Calls → Calls → Type 0
 SealedAlike run run′ =
     (x : Release run) (y : Release run′) → x .job .kind ≡ y .job .kind → x .job .n ≡ y .job .n

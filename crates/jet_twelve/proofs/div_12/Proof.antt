@@ -1,117 +1,54 @@
 -- `jet_twelve::div_12` meets its contract. Assumes nothing.
-use mathlib.Core.Path.{sym, _∙_}
-use Rattle.jet_twelve.proofs.UptoTwelve.{quotient-linear}
 use borrow.Author.Needs.{needs}
+use Rattle.jet_twelve.proofs.UptoTwelve.{quotient-twelve}
 use Rattle.jet_twelve.proofs.div_12.Statement.{statement}
 use Rattle.jet_twelve.proofs.div_12.Tie as tie
 
-element-copy-out-y0 : tie.Need-element-copy-out-y0
-element-copy-out-y0 c = search needs
+four-at-requires : tie.Need-four-at-requires
+four-at-requires c κs = search needs
 
-element-copy-out-y1 : tie.Need-element-copy-out-y1
-element-copy-out-y1 c = search needs
+div-4-requires : tie.Need-div-4-requires
+div-4-requires c κs = search needs
 
-element-copy-out-y2 : tie.Need-element-copy-out-y2
-element-copy-out-y2 c = search needs
+four-at-requires-2 : tie.Need-four-at-requires-2
+four-at-requires-2 c κs = search needs
 
-element-copy-out-y3 : tie.Need-element-copy-out-y3
-element-copy-out-y3 c = search needs
+four-at-requires-3 : tie.Need-four-at-requires-3
+four-at-requires-3 c κs = search needs
 
-element-copy-out-y4 : tie.Need-element-copy-out-y4
-element-copy-out-y4 c = search needs
+four-at-requires-4 : tie.Need-four-at-requires-4
+four-at-requires-4 c κs = search needs
 
-element-copy-out-y5 : tie.Need-element-copy-out-y5
-element-copy-out-y5 c = search needs
+quotient-beside-requires : tie.Need-quotient-beside-requires
+quotient-beside-requires c κs = search needs
 
-element-copy-out-y6 : tie.Need-element-copy-out-y6
-element-copy-out-y6 c = search needs
+four-at-requires-5 : tie.Need-four-at-requires-5
+four-at-requires-5 c κs = search needs
 
-element-copy-out-y7 : tie.Need-element-copy-out-y7
-element-copy-out-y7 c = search needs
+four-at-requires-6 : tie.Need-four-at-requires-6
+four-at-requires-6 c κs = search needs
 
-element-copy-out-y8 : tie.Need-element-copy-out-y8
-element-copy-out-y8 c = search needs
+quotient-beside-requires-2 : tie.Need-quotient-beside-requires-2
+quotient-beside-requires-2 c κs = search needs
 
-element-copy-out-y9 : tie.Need-element-copy-out-y9
-element-copy-out-y9 c = search needs
-
-element-copy-out-y10 : tie.Need-element-copy-out-y10
-element-copy-out-y10 c = search needs
-
-element-copy-out-y11 : tie.Need-element-copy-out-y11
-element-copy-out-y11 c = search needs
-
-element-copy-out-q0 : tie.Need-element-copy-out-q0
-element-copy-out-q0 c = search needs
-
-element-copy-out-q1 : tie.Need-element-copy-out-q1
-element-copy-out-q1 c = search needs
-
-element-copy-out-q2 : tie.Need-element-copy-out-q2
-element-copy-out-q2 c = search needs
-
-element-copy-out-q3 : tie.Need-element-copy-out-q3
-element-copy-out-q3 c = search needs
-
-element-copy-out-q4 : tie.Need-element-copy-out-q4
-element-copy-out-q4 c = search needs
-
-element-copy-out-q5 : tie.Need-element-copy-out-q5
-element-copy-out-q5 c = search needs
-
-element-copy-out-q6 : tie.Need-element-copy-out-q6
-element-copy-out-q6 c = search needs
-
-element-copy-out-q7 : tie.Need-element-copy-out-q7
-element-copy-out-q7 c = search needs
-
-element-copy-out-q8 : tie.Need-element-copy-out-q8
-element-copy-out-q8 c = search needs
-
-element-copy-out-q9 : tie.Need-element-copy-out-q9
-element-copy-out-q9 c = search needs
-
-element-copy-out-q10 : tie.Need-element-copy-out-q10
-element-copy-out-q10 c = search needs
-
-element-copy-out-q11 : tie.Need-element-copy-out-q11
-element-copy-out-q11 c = search needs
-
-linear-requires : tie.Need-linear-requires
-linear-requires c κs = search needs
+joined-requires : tie.Need-joined-requires
+joined-requires c κs = search needs
 
 returns : tie.Need-returns
-returns c =
-    let s = c .before .before .before .before .before .before .before .before .before .before .before .before .before .before .before .before .before .before .before .before .before .before .before .before .before in
-    c .linear .ensures ∙ sym (quotient-linear (s .args .t1 .c) (s .args .t2 .c))
+returns c = rw (c .joined .ensures, c .before .quotient-beside2 .ensures, c .before .before .before .before .quotient-beside .ensures, c .before .before .four-at6 .ensures, c .before .before .before .four-at5 .ensures, c .before .before .before .before .before .four-at4 .ensures, c .before .before .before .before .before .before .four-at3 .ensures, c .before .before .before .before .before .before .before .four-at2 .ensures, c .before .before .before .before .before .before .before .before .before .four-at .ensures) (quotient-twelve _ _ _ (c .before .before .before .before .before .before .before .before .div-4 .ensures))
 
 pub div-12-spec : {M : Type 1} → statement M
 div-12-spec =
     tie.close
     (tie.spec
-    element-copy-out-y0
-    element-copy-out-y1
-    element-copy-out-y2
-    element-copy-out-y3
-    element-copy-out-y4
-    element-copy-out-y5
-    element-copy-out-y6
-    element-copy-out-y7
-    element-copy-out-y8
-    element-copy-out-y9
-    element-copy-out-y10
-    element-copy-out-y11
-    element-copy-out-q0
-    element-copy-out-q1
-    element-copy-out-q2
-    element-copy-out-q3
-    element-copy-out-q4
-    element-copy-out-q5
-    element-copy-out-q6
-    element-copy-out-q7
-    element-copy-out-q8
-    element-copy-out-q9
-    element-copy-out-q10
-    element-copy-out-q11
-    linear-requires
+    four-at-requires
+    div-4-requires
+    four-at-requires-2
+    four-at-requires-3
+    four-at-requires-4
+    quotient-beside-requires
+    four-at-requires-5
+    four-at-requires-6
+    quotient-beside-requires-2
+    joined-requires
     returns)

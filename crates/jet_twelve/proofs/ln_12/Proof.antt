@@ -1,73 +1,46 @@
 -- `jet_twelve::ln_12` meets its contract. Assumes nothing.
-use mathlib.Core.Path.{sym, _∙_}
-use Rattle.jet_twelve.proofs.UptoTwelve.{logarithm-linear}
 use borrow.Author.Needs.{needs}
+use Rattle.jet_twelve.proofs.UptoTwelve.{logarithm-twelve}
 use Rattle.jet_twelve.proofs.ln_12.Statement.{statement}
 use Rattle.jet_twelve.proofs.ln_12.Tie as tie
 
-element-copy-out-x0 : tie.Need-element-copy-out-x0
-element-copy-out-x0 c = search needs
+four-at-requires : tie.Need-four-at-requires
+four-at-requires c κs = search needs
 
-element-copy-out-x1 : tie.Need-element-copy-out-x1
-element-copy-out-x1 c = search needs
+ln-4-requires : tie.Need-ln-4-requires
+ln-4-requires c κs = search needs
 
-element-copy-out-x2 : tie.Need-element-copy-out-x2
-element-copy-out-x2 c = search needs
+four-at-requires-2 : tie.Need-four-at-requires-2
+four-at-requires-2 c κs = search needs
 
-element-copy-out-x3 : tie.Need-element-copy-out-x3
-element-copy-out-x3 c = search needs
+four-at-requires-3 : tie.Need-four-at-requires-3
+four-at-requires-3 c κs = search needs
 
-element-copy-out-x4 : tie.Need-element-copy-out-x4
-element-copy-out-x4 c = search needs
+logarithm-beside-requires : tie.Need-logarithm-beside-requires
+logarithm-beside-requires c κs = search needs
 
-element-copy-out-x5 : tie.Need-element-copy-out-x5
-element-copy-out-x5 c = search needs
+four-at-requires-4 : tie.Need-four-at-requires-4
+four-at-requires-4 c κs = search needs
 
-element-copy-out-x6 : tie.Need-element-copy-out-x6
-element-copy-out-x6 c = search needs
+logarithm-beside-requires-2 : tie.Need-logarithm-beside-requires-2
+logarithm-beside-requires-2 c κs = search needs
 
-element-copy-out-x7 : tie.Need-element-copy-out-x7
-element-copy-out-x7 c = search needs
-
-element-copy-out-x8 : tie.Need-element-copy-out-x8
-element-copy-out-x8 c = search needs
-
-element-copy-out-x9 : tie.Need-element-copy-out-x9
-element-copy-out-x9 c = search needs
-
-element-copy-out-x10 : tie.Need-element-copy-out-x10
-element-copy-out-x10 c = search needs
-
-element-copy-out-x11 : tie.Need-element-copy-out-x11
-element-copy-out-x11 c = search needs
-
-ln-requires : tie.Need-ln-requires
-ln-requires c κs = search needs
-
-linear-requires : tie.Need-linear-requires
-linear-requires c κs = search needs
+joined-requires : tie.Need-joined-requires
+joined-requires c κs = search needs
 
 returns : tie.Need-returns
-returns c =
-    let s = c .before .before .before .before .before .before .before .before .before .before .before .before .before .before in
-    c .linear .ensures ∙ sym (logarithm-linear (s .args .t1 .c) _ (c .before .ln .ensures))
+returns c = rw (c .joined .ensures, c .before .logarithm-beside2 .ensures, c .before .before .before .logarithm-beside .ensures, c .before .before .four-at4 .ensures, c .before .before .before .before .four-at3 .ensures, c .before .before .before .before .before .four-at2 .ensures, c .before .before .before .before .before .before .before .four-at .ensures) (logarithm-twelve _ _ (c .before .before .before .before .before .before .ln-4 .ensures))
 
 pub ln-12-spec : {M : Type 1} → statement M
 ln-12-spec =
     tie.close
     (tie.spec
-    element-copy-out-x0
-    element-copy-out-x1
-    element-copy-out-x2
-    element-copy-out-x3
-    element-copy-out-x4
-    element-copy-out-x5
-    element-copy-out-x6
-    element-copy-out-x7
-    element-copy-out-x8
-    element-copy-out-x9
-    element-copy-out-x10
-    element-copy-out-x11
-    ln-requires
-    linear-requires
+    four-at-requires
+    ln-4-requires
+    four-at-requires-2
+    four-at-requires-3
+    logarithm-beside-requires
+    four-at-requires-4
+    logarithm-beside-requires-2
+    joined-requires
     returns)

@@ -1,65 +1,42 @@
 -- `jet_twelve::sqrt_12_from` meets its contract. Assumes nothing.
-use mathlib.Core.Path.{sym, _∙_}
-use Rattle.jet_twelve.proofs.UptoTwelve.{root-linear}
 use borrow.Author.Needs.{needs}
+use Rattle.jet_twelve.proofs.UptoTwelve.{root-twelve}
 use Rattle.jet_twelve.proofs.sqrt_12_from.Statement.{statement}
 use Rattle.jet_twelve.proofs.sqrt_12_from.Tie as tie
 
-element-copy-out-r1 : tie.Need-element-copy-out-r1
-element-copy-out-r1 c = search needs
+sqrt-4-from-requires : tie.Need-sqrt-4-from-requires
+sqrt-4-from-requires c κs = search needs
 
-element-copy-out-r2 : tie.Need-element-copy-out-r2
-element-copy-out-r2 c = search needs
+four-at-requires : tie.Need-four-at-requires
+four-at-requires c κs = search needs
 
-element-copy-out-r3 : tie.Need-element-copy-out-r3
-element-copy-out-r3 c = search needs
+four-at-requires-2 : tie.Need-four-at-requires-2
+four-at-requires-2 c κs = search needs
 
-element-copy-out-r4 : tie.Need-element-copy-out-r4
-element-copy-out-r4 c = search needs
+root-beside-requires : tie.Need-root-beside-requires
+root-beside-requires c κs = search needs
 
-element-copy-out-r5 : tie.Need-element-copy-out-r5
-element-copy-out-r5 c = search needs
+four-at-requires-3 : tie.Need-four-at-requires-3
+four-at-requires-3 c κs = search needs
 
-element-copy-out-r6 : tie.Need-element-copy-out-r6
-element-copy-out-r6 c = search needs
+root-beside-requires-2 : tie.Need-root-beside-requires-2
+root-beside-requires-2 c κs = search needs
 
-element-copy-out-r7 : tie.Need-element-copy-out-r7
-element-copy-out-r7 c = search needs
-
-element-copy-out-r8 : tie.Need-element-copy-out-r8
-element-copy-out-r8 c = search needs
-
-element-copy-out-r9 : tie.Need-element-copy-out-r9
-element-copy-out-r9 c = search needs
-
-element-copy-out-r10 : tie.Need-element-copy-out-r10
-element-copy-out-r10 c = search needs
-
-element-copy-out-r11 : tie.Need-element-copy-out-r11
-element-copy-out-r11 c = search needs
-
-linear-requires : tie.Need-linear-requires
-linear-requires c κs = search needs
+joined-requires : tie.Need-joined-requires
+joined-requires c κs = search needs
 
 returns : tie.Need-returns
-returns c =
-    let s = c .before .before .before .before .before .before .before .before .before .before .before .before in
-    c .linear .ensures ∙ sym (root-linear (s .args .t2 .c) (s .args .r0) (s .pre))
+returns c = rw (c .joined .ensures, c .before .root-beside2 .ensures, c .before .before .before .root-beside .ensures, c .before .before .four-at3 .ensures, c .before .before .before .before .four-at2 .ensures, c .before .before .before .before .before .four-at .ensures) (root-twelve _ _ (c .before .before .before .before .before .before .sqrt-4-from .ensures))
 
 pub sqrt-12-from-spec : {M : Type 1} → statement M
 sqrt-12-from-spec =
     tie.close
     (tie.spec
-    element-copy-out-r1
-    element-copy-out-r2
-    element-copy-out-r3
-    element-copy-out-r4
-    element-copy-out-r5
-    element-copy-out-r6
-    element-copy-out-r7
-    element-copy-out-r8
-    element-copy-out-r9
-    element-copy-out-r10
-    element-copy-out-r11
-    linear-requires
+    sqrt-4-from-requires
+    four-at-requires
+    four-at-requires-2
+    root-beside-requires
+    four-at-requires-3
+    root-beside-requires-2
+    joined-requires
     returns)
