@@ -11,7 +11,6 @@ ghost use Rattle.eos.specs.Jets.{jetAt};
 ghost use Rattle.eos.specs.Cubic.{nth, akOf, mixTerm, akMix, bMix, repulsion, logRatio, attraction, contribution};
 ghost use Rattle.eos.specs.Helmholtz.{partialDensity, Mixes, helmholtz as helmholtzOf};
 use crate::mixture::firsts;
-use crate::mixture::numbers;
 use crate::mixture::root_place;
 use crate::mixture::roots;
 use crate::mixture::sum;
@@ -138,6 +137,21 @@ fn contribute(density: Jet, ak: Jet, b: Jet, t: Jet) -> Jet
     jet::mul_4(density, d)
 }
 
+// The partial densities of the first n mole numbers, plain numbers here, in the volume v.
+fn densities(n: usize, moles: &[f64; 8], v: Jet) -> [Jet; 8]
+    requires { ⌜ n ≤ 8 ⌝ }
+    ensures { λ r. ⌜ ((i : ℕ) → i < n → Upto 4 (jetAt r i) (numberOf (nth (now (moles .entry)) i) ⧄ v .c)) ⌝ }
+{
+    let zero = jet::number(0.0);
+    let mut out = [zero; 8];
+    let mut i: usize = 0;
+    while i < n {
+        out[i] = jet::div_4(jet::number(moles[i]), v);
+        i += 1;
+    }
+    out
+}
+
 // The first n of a, each over d.
 fn over(n: usize, a: [Jet; 8], d: Jet) -> [Jet; 8]
     requires { ⌜ n ≤ 8 ⌝ }
@@ -174,14 +188,15 @@ fn alone(blend: Blend, t: Jet, v: Jet, moles: Jet) -> Mixture
     }
 }
 
-// The first n components, of the mole numbers moles.
-fn many(n: usize, blend: Blend, t: Jet, v: Jet, moles: [Jet; 8]) -> Mixture
+// The first n components, of the blend's fractions.
+fn many(n: usize, blend: Blend, t: Jet, v: Jet) -> Mixture
     requires { ⌜ (1 ≤ n) × (n ≤ 8) ⌝ }
-    ensures { λ r. ⌜ Mixes 4 blend n (t .c) (partialDensity (jetAt moles) (v .c)) r ⌝ }
+    ensures { λ r. ⌜ Mixes 4 blend n (t .c) (partialDensity (λ i. numberOf (nth (blend .x) i)) (v .c)) r ⌝ }
 {
     let k = blend.k_ij;
     let b = blend.b;
-    let rho = over(n, moles, v);
+    let moles = blend.x;
+    let rho = densities(n, &moles, v);
     let density = sum(n, rho);
     let x = over(n, rho, density);
     let ak = aks(n, blend, t);
@@ -201,7 +216,7 @@ fn mix(n: usize, blend: Blend, t: Jet, v: Jet) -> Mixture
     if n == 1 {
         return alone(blend, t, v, jet::number(x[0]));
     }
-    many(n, blend, t, v, numbers(n, &x))
+    many(n, blend, t, v)
 }
 
 // `residual_helmholtz_energy`. The mixture's branches meet before the one call of `contribute`, so that it is compiled into this function.

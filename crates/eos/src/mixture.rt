@@ -4,26 +4,11 @@ ghost use mathlib.Core.Path.{_≡_};
 ghost use Prim.Native.Nat.{ℕ, _+_, _*_, _≤_, _<_};
 ghost use Rattle.float.specs.Ops.{_⊗_};
 ghost use Rattle.float.specs.Root.{root as rootOf};
-ghost use Rattle.jet.specs.Coefficients.{at, numberOf};
+ghost use Rattle.jet.specs.Coefficients.{at};
 ghost use Rattle.eos.specs.Indices.{jetTotal};
 ghost use Rattle.eos.specs.Jets.{jetAt, placeOf};
 ghost use Rattle.eos.specs.Cubic.{nth};
 use jet::Jet;
-
-// The first n of x as jets.
-pub fn numbers(n: usize, x: &[f64; 8]) -> [Jet; 8]
-    requires { ⌜ n ≤ 8 ⌝ }
-    ensures { λ r. ⌜ ((i : ℕ) → i < n → jetAt r i ≡ numberOf (nth (now (x .entry)) i)) ⌝ }
-{
-    let zero = jet::number(0.0);
-    let mut out = [zero; 8];
-    let mut i: usize = 0;
-    while i < n {
-        out[i] = jet::number(x[i]);
-        i += 1;
-    }
-    out
-}
 
 // The sum of the first n of a, from the first term.
 pub fn sum(n: usize, a: [Jet; 8]) -> Jet

@@ -3,7 +3,6 @@ use mathlib.Core.Path.{ap}
 use native.Mathlib.Omega.{arith}
 use lib.ListN.{take}
 use Rattle.jet.specs.Coefficients.{Upto, numberOf}
-use Rattle.eos.specs.Jets.{jetAt}
 use Rattle.eos.specs.Cubic.{nth}
 use Rattle.eos.proofs.Energy.{only-first, mixes-cong}
 use borrow.Author.Needs.{needs}
@@ -25,19 +24,13 @@ returns c =
     let a = s .args in
     rw (c .before .before .if1 .taken) (mixes-cong 4 1 (omega arith) (a .blend) (a .t .c) (a .v .c) (λ i. c .before .number .result .c) (λ i. numberOf (nth (a .blend .x) i)) (c .alone .result) (only-first (λ i. Upto 4 (c .before .number .result .c) (numberOf (nth (a .blend .x) i))) (ap (take 4) (c .before .number .ensures))) (c .alone .ensures))
 
-numbers-requires : tie.Need-numbers-requires
-numbers-requires c κs = search needs
-
 many-requires : tie.Need-many-requires
 many-requires c κs = search needs
 
 returns-2 : tie.Need-returns-2
-returns-2 c =
-    let s = c .before .before .before .before .before in
-    let a = s .args in
-    mixes-cong 4 (a .n) (s .pre .0) (a .blend) (a .t .c) (a .v .c) (jetAt (c .before .numbers .result)) (λ i. numberOf (nth (a .blend .x) i)) (c .many .result) (λ i l. ap (take 4) (c .before .numbers .ensures i l)) (c .many .ensures)
+returns-2 c = c .many .ensures
 
 pub mix-spec : {M : Type 1} → statement M
 mix-spec =
     tie.close
-    (tie.spec array-read-number number-requires alone-requires returns numbers-requires many-requires returns-2)
+    (tie.spec array-read-number number-requires alone-requires returns many-requires returns-2)

@@ -1,21 +1,23 @@
--- `eos::mixture::numbers` meets its contract. Assumes nothing.
-use mathlib.Core.Path.{_≡_, refl, _∙_}
+-- `eos::helmholtz_4::densities` meets its contract. Assumes nothing.
+use mathlib.Core.Path.{_≡_, refl, ap, _∙_}
 use Prim.Native.Nat.{ℕ, _-_, _≤_, _<_}
 use native.Mathlib.Omega.{arith}
-use lib.ListN.{length, length-set}
-use Rattle.jet.specs.Coefficients.{numberOf}
+use lib.ListN.{length, length-set, take}
+use Rattle.jet.specs.Coefficients.{Upto, numberOf}
+use Rattle.jet.specs.Ops.{_⧄_}
+use Rattle.jet.proofs.Prefix.{div-upto}
 use Rattle.eos.specs.Jets.{jetAt}
 use Rattle.eos.specs.Cubic.{nth}
 use Rattle.eos.proofs.Totals.{put-turn}
 use borrow.Author.Needs.{needs}
-use Rattle.eos.proofs.mixture.numbers.Statement.{statement}
-use Rattle.eos.proofs.mixture.numbers.Tie as tie
+use Rattle.eos.proofs.helmholtz_4.densities.Statement.{statement}
+use Rattle.eos.proofs.helmholtz_4.densities.Tie as tie
 
 abbrev Inv-loop : tie.InvT-loop
-Inv-loop n x out₀ i₀ out i = (i ≤ n) × (length out ≡ 8) × ((k : ℕ) → k < i → jetAt out k ≡ numberOf (nth x k))
+Inv-loop n moles v out₀ i₀ out i = (i ≤ n) × (length out ≡ 8) × ((k : ℕ) → k < i → Upto 4 (jetAt out k) (numberOf (nth moles k) ⧄ v .c))
 
 abbrev μ-loop : tie.MeasureT-loop
-μ-loop n x out₀ i₀ out i = n - i
+μ-loop n moles v out₀ i₀ out i = n - i
 
 number-requires : tie.Need-number-requires Inv-loop μ-loop
 number-requires c κs = search needs
@@ -32,6 +34,9 @@ element-copy-out-number c = search needs
 number-requires-2 : tie.Need-number-requires-2 Inv-loop μ-loop
 number-requires-2 c κs = search needs
 
+div-4-requires : tie.Need-div-4-requires Inv-loop μ-loop
+div-4-requires c κs = search needs
+
 mul-out : tie.Need-mul-out Inv-loop μ-loop
 mul-out c = search needs
 
@@ -46,19 +51,19 @@ loop-less c = search needs
 
 loop-again : tie.Need-loop-again Inv-loop μ-loop
 loop-again c =
-    let l = c .before .before .before in
+    let l = c .before .before .before .before in
     let a = l .before .before .args in
     let i = l .loop .i in (
       omega arith,
       length-set (l .loop .out) i _ ∙ l .loop .inv .1,
-      put-turn (λ k r. r ≡ numberOf (nth (a .x .now) k)) (l .loop .out) i _ (omega arith) (l .loop .inv .2) (c .number2 .ensures),
+      put-turn (λ k r. Upto 4 r (numberOf (nth (a .moles .now) k) ⧄ a .v .c)) (l .loop .out) i _ (omega arith) (l .loop .inv .2) (div-upto 4 (c .before .number2 .result .c) (numberOf (nth (a .moles .now) i)) _ (ap (take 4) (c .before .number2 .ensures)) (a .v .c) (a .v .c) refl (c .div-4 .ensures)),
     )
 
 returns : tie.Need-returns Inv-loop μ-loop
 returns c = λ i h. c .before .loop .inv .2 i (omega arith)
 
-pub numbers-spec : {M : Type 1} → statement M
-numbers-spec =
+pub densities-spec : {M : Type 1} → statement M
+densities-spec =
     tie.close
     (tie.spec
     Inv-loop
@@ -68,6 +73,7 @@ numbers-spec =
     mul-number
     element-copy-out-number
     number-requires-2
+    div-4-requires
     mul-out
     array-set-from-out
     add-i
