@@ -1,6 +1,6 @@
 // The residual Helmholtz energy of cubic.rs, residual.rs and `StateHD` on jets, at positions 0 to 11: all that criticality and stability
 // need. helmholtz_4.rt has the same functions in the same order for positions 0 to 3; both equal the definitions of
-// specs/Cubic.antt and specs/Helmholtz.antt. Here the mole numbers are jets.
+// specs/Cubic.antt and specs/Helmholtz.antt. Here the mole numbers are jets, so that there is no `densities`.
 ghost use mathlib.Core.Path.{_≡_};
 ghost use Prim.Native.Nat.{ℕ, _+_, _*_, _≤_, _<_};
 ghost use Rattle.float.specs.Ops.{_⊗_};

@@ -1,4 +1,5 @@
--- The four coefficients of a jet along e0, and the four along e0 beside another mark: document 01's rules at the latter, from the four of both. Definitions only.
+-- The four coefficients of a jet along e0, and the four along e0 beside another mark: document 01's rules at the latter, from the four of both. They are for the crate's own
+-- functions; what it exports is stated by `jet`'s definitions. Definitions only.
 use Prim.Native.Nat.{ℕ, _+_}
 use mathlib.Core.List.{List, _∷_}
 use lib.ListN.{replicate}
