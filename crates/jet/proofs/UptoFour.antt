@@ -3,8 +3,8 @@ use mathlib.Core.Path.{_≡_, refl}
 use native.Mathlib.Omega.{arith}
 use mathlib.Core.List.{List, _∷_}
 use lib.ListN.{replicate}
-use lib.Ieee.{Float, binary64, ofInt, ofBits}
-use Rattle.float.specs.Ops.{_⊕_, _⊖_, _⊗_, _⊘_, f0, f1, f2}
+use lib.Ieee.{Float, ofInt, ofBits}
+use Rattle.float.specs.Ops.{_⊕_, _⊖_, _⊗_, _⊘_, f0, f1, f2, f3}
 use Rattle.float.specs.Root.{root}
 use Rattle.float.specs.Ln.{lnOf}
 use Rattle.jet.specs.Positions.{notAbove, among, pairsOf, before, between, weightOf}
@@ -68,10 +68,6 @@ module _ (x : List Float) (w1 w2 w3 : Float) where
 by-weights : (x : List Float) → cut 4 (logarithmOf x) ≡ weighted x (weightOf 1) (weightOf 2) (weightOf 3) (lnOf (at x 0))
 unfolding logarithmOf logarithmAt less between among notAbove build
 by-weights x = padded (logarithmAt x) 4 (omega arith)
-
--- 3
-abbrev pub f3 : Float
-f3 = ofBits binary64 0x4008_0000_0000_0000
 
 weight-1 : weightOf 1 ≡ f1
 unfolding weightOf ofInt ofBits

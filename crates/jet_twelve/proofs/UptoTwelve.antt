@@ -4,12 +4,11 @@ use Prim.Native.Nat.{ℕ, suc}
 use native.Mathlib.Omega.{arith}
 use mathlib.Core.List.{List}
 use lib.Ieee.{Float, ofInt, ofBits}
-use Rattle.float.specs.Ops.{f1, f2}
 use Rattle.jet.specs.Positions.{notAbove, among, pairsOf, before, between, weightOf}
 use Rattle.jet.specs.Coefficients.{build, cut, total, less, productAt, productOf, quotientAt, quotientOf, rootAt, rootOf, logarithmAt, logarithmOf}
 use Rattle.jet.proofs.Build.{padded}
 use Rattle.jet_twelve.specs.declared.Four.{Four}
-use Rattle.jet_twelve.specs.Beside.{f3, f4, fourAt, joinedOf, productBeside, quotientBeside, rootBeside, weightedBeside, logarithmBeside}
+use Rattle.jet_twelve.specs.Beside.{fourAt, joinedOf, productBeside, quotientBeside, rootBeside, weightedBeside, logarithmBeside}
 
 -- from the first four coefficients low
 module _ (x y low : List Float) where

@@ -3,17 +3,10 @@
 use Prim.Native.Nat.{ℕ, _+_}
 use mathlib.Core.List.{List, _∷_}
 use lib.ListN.{replicate}
-use lib.Ieee.{Float, binary64, ofBits}
-use Rattle.float.specs.Ops.{_⊕_, _⊖_, _⊗_, _⊘_, f0, f1, f2}
+use lib.Ieee.{Float}
+use Rattle.float.specs.Ops.{_⊕_, _⊖_, _⊗_, _⊘_, f0, f1, f2, f3, f4}
 use Rattle.jet.specs.Coefficients.{at}
 use Rattle.jet_twelve.specs.declared.Four.{Four}
-
--- 3 and 4
-abbrev pub f3 : Float
-f3 = ofBits binary64 0x4008_0000_0000_0000
-
-abbrev pub f4 : Float
-f4 = ofBits binary64 0x4010_0000_0000_0000
 
 -- the four from position i
 unfoldable pub fourAt : List Float → ℕ → Four
