@@ -1,4 +1,4 @@
-//! The request block of 640 bytes: its parts, the refusals 11 to 16 and the run of the search that the kind names.
+//! The request block of 640 bytes: its parts, the refusals 11 to 17 and the run of the search that the kind names.
 
 use crate::critical_point::{critical_point, spinodal};
 use crate::cubic::{PengRobinson, PengRobinsonRecord};
@@ -138,7 +138,21 @@ fn is_none(x: f64) -> bool {
     x.to_bits() == 0
 }
 
-/// The data refusals in document 01's order, else the job.
+/// The fractions' sum from the first on in ascending order of index, rounded after each addition.
+pub fn sum_of(fractions: &[f64]) -> f64 {
+    let mut sum = fractions[0];
+    for x in &fractions[1..] {
+        sum += x;
+    }
+    sum
+}
+
+/// Whether a sum of fractions is near enough to 1; one that overflows is not.
+pub fn adds_up(sum: f64) -> bool {
+    (sum - 1.0).abs() <= 1e-9
+}
+
+/// The data refusals in document 01's order, 17 between 14 and 15, else the job.
 pub fn check(kind: u8, n: usize, block: &[u8; BLOCK]) -> Result<Job, u64> {
     let parts = read_parts(n, block).ok_or(11u64)?;
     let eos = PengRobinson::new(&parts.coefficients, &parts.interactions);
@@ -161,12 +175,15 @@ pub fn check(kind: u8, n: usize, block: &[u8; BLOCK]) -> Result<Job, u64> {
         return Err(13);
     }
 
-    // 14: fractions, which kinds 5 and 6 do not read
+    // 14, then 17: fractions and their sum, which kinds 5 and 6 do not read
     let pure = kind == 5 || kind == 6;
     if !pure {
         let bad = |x: &f64| !x.is_finite() || x.is_sign_negative();
         if parts.fractions.iter().any(bad) {
             return Err(14);
+        }
+        if !adds_up(sum_of(&parts.fractions)) {
+            return Err(17);
         }
     }
 

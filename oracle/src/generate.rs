@@ -1,6 +1,6 @@
 //! Random requests from a seed: real blends in ordinary and odd states, damaged blocks, and extremes of the range.
 
-use crate::block::{lengths, BLOCK, REQUEST};
+use crate::block::{adds_up, lengths, sum_of, BLOCK, REQUEST};
 use crate::cubic::PengRobinson;
 use crate::density_iteration::{_pressure_spinodal, _pressure_spinodal_branch};
 use crate::evaluations::Evaluations;
@@ -9,6 +9,10 @@ use crate::state::DensityInitialization::{Liquid, Vapor};
 
 /// One Pascal in K per cubic angstrom.
 const PASCAL: f64 = 1.0 / 13806490.0;
+
+/// The least and the greatest sum of fractions that 17 lets pass: floats are 2^-53 apart below 1 and 2^-52 above.
+pub const LEAST_SUM: f64 = 1.0 - 9007199.0 / 9007199254740992.0;
+pub const GREATEST_SUM: f64 = 1.0 + 4503599.0 / 4503599627370496.0;
 
 /// A request before it is written into bytes.
 #[derive(Clone, Debug)]
@@ -161,6 +165,48 @@ fn start(rng: &mut Rng, seen: &Seen, t: f64) -> f64 {
     }
 }
 
+fn scale(fractions: &mut [f64], factor: f64) {
+    for x in fractions {
+        *x *= factor;
+    }
+}
+
+/// Changes the largest fraction until the sum is the target, or next to it where rounding leaves none closer.
+fn add_up_to(fractions: &mut [f64], target: f64) {
+    let by_size = |&i: &usize, &j: &usize| fractions[i].total_cmp(&fractions[j]);
+    let largest = (0..fractions.len()).max_by(by_size).unwrap_or_default();
+    for _ in 0..20 {
+        fractions[largest] += target - sum_of(fractions);
+    }
+}
+
+/// A sum at the limit of 17, or a step inside or outside it.
+fn at_limit(rng: &mut Rng, fractions: &mut [f64]) {
+    let target = rng.pick(&[
+        LEAST_SUM,
+        LEAST_SUM.next_down(),
+        LEAST_SUM.next_up(),
+        GREATEST_SUM,
+        GREATEST_SUM.next_up(),
+        GREATEST_SUM.next_down(),
+    ]);
+    add_up_to(fractions, target);
+}
+
+/// Fractions that add up in ascending order and not in descending order, or the other way round; N of 3 or more.
+fn at_limit_by_order(rng: &mut Rng, fractions: &mut [f64]) {
+    for _ in 0..200 {
+        fractions.fill_with(|| rng.between(0.01, 1.0));
+        let sum = sum_of(fractions);
+        scale(fractions, 1.0 / sum);
+        at_limit(rng, fractions);
+        let reversed: Vec<f64> = fractions.iter().rev().copied().collect();
+        if adds_up(sum_of(fractions)) != adds_up(sum_of(&reversed)) {
+            return;
+        }
+    }
+}
+
 /// A blend in a state that the equation of state is made for, or in an odd one.
 fn ordinary(rng: &mut Rng) -> Draft {
     let n = match rng.below(3) {
@@ -182,6 +228,11 @@ fn ordinary(rng: &mut Rng) -> Draft {
     for record in &mut draft.blend.coefficients {
         record.tc *= draft.scale.temperature;
         record.pc *= draft.scale.temperature * draft.scale.density;
+    }
+    if rng.once_in(8) {
+        // 1 only within what 17 allows
+        let sum = rng.between(1.0 - 9.9e-10, 1.0 + 9.9e-10);
+        scale(&mut draft.blend.fractions, sum);
     }
     draft.choice = match kind {
         1 => rng.below(3) as u64,
@@ -209,7 +260,7 @@ fn extreme(rng: &mut Rng) -> Draft {
     for _ in 0..1 + rng.below(3) {
         let i = rng.below(draft.n);
         let record = &mut draft.blend.coefficients[i];
-        match rng.below(12) {
+        match rng.below(13) {
             0 => record.tc = rng.log_between(1e-150, 1e150),
             1 => record.pc = rng.log_between(1e-290, 1e290),
             2 => record.tc = rng.log_between(1e-3, 1e6),
@@ -219,11 +270,24 @@ fn extreme(rng: &mut Rng) -> Draft {
             6 => draft.temperature = rng.log_between(1e-308, 1e308),
             7 => draft.temperature = rng.log_between(1e-3, 1e6),
             8 => {
-                let factor = rng.log_between(1e-300, 1e300);
-                draft.blend.fractions.iter_mut().for_each(|x| *x *= factor);
+                // all co-volumes by the same factor, the conditions with them or not
+                let factor = rng.log_between(1e-290, 1e290);
+                for record in &mut draft.blend.coefficients {
+                    record.pc *= factor;
+                }
+                if rng.once_in(2) {
+                    draft.pressure *= factor;
+                    draft.start *= factor;
+                }
             }
-            9 => draft.pressure = rng.any_finite(),
-            10 => draft.start = rng.any_finite(),
+            9 => {
+                // one component with traces of the others, at most 7e-10 of them
+                let trace = rng.log_between(1e-320, 1e-10);
+                draft.blend.fractions.fill(trace);
+                draft.blend.fractions[i] = 1.0;
+            }
+            10 => draft.pressure = rng.any_finite(),
+            11 => draft.start = rng.any_finite(),
             _ => {
                 for k in &mut draft.blend.interactions {
                     *k = rng.pick(&[1.0, 2.0, -1.0, 1e3, -1e300, 1e300]);
@@ -244,11 +308,6 @@ fn cold(rng: &mut Rng) -> Draft {
     if rng.once_in(3) {
         let i = rng.below(draft.n);
         draft.blend.coefficients[i].acentric_factor = rng.between(-3.0, 3.0);
-    }
-    if rng.once_in(4) {
-        // percentages instead of fractions, and worse
-        let factor = rng.pick(&[100.0, 1000.0, 0.01, 1e6]);
-        draft.blend.fractions.iter_mut().for_each(|x| *x *= factor);
     }
     let seen = draft.seen();
     draft.temperature = seen.tc * rng.log_between(1e-3, 0.6);
@@ -376,6 +435,13 @@ fn damage(rng: &mut Rng, draft: &mut Draft, refusal: u8) {
             let i = rng.below(draft.blend.interactions.len());
             draft.blend.interactions[i] = rng.pick(&[f64::NAN, f64::INFINITY, f64::NEG_INFINITY]);
         }
+        14 if draft.n > 1 && rng.once_in(2) => {
+            // the sum stays as it is
+            let negative = rng.pick(&[-0.0, -0.1, -5e-324]);
+            let fractions = &mut draft.blend.fractions;
+            fractions[(i + 1) % draft.n] += fractions[i] - negative;
+            fractions[i] = negative;
+        }
         14 => {
             draft.blend.fractions[i] = rng.pick(&[
                 -0.0,
@@ -391,20 +457,59 @@ fn damage(rng: &mut Rng, draft: &mut Draft, refusal: u8) {
             1 if draft.uses_start() => draft.start = rng.pick(&[f64::NAN, f64::NEG_INFINITY]),
             _ => draft.temperature = bad(rng),
         },
-        16 => match rng.below(4) {
-            0 => draft.blend.fractions.fill(0.0),
-            1 => draft.blend.fractions.fill(f64::MAX),
-            _ => {
-                let limit = match draft.kind {
-                    1 => 3,
-                    4 => 2,
-                    _ => draft.n as u64,
-                };
-                let far = rng.bits();
-                draft.choice = rng.pick(&[limit, limit + 1, 1 << 32, 1 << 63, u64::MAX, far]);
-            }
-        },
+        16 if draft.uses_choice() && !rng.once_in(3) => {
+            let limit = match draft.kind {
+                1 => 3,
+                4 => 2,
+                _ => draft.n as u64,
+            };
+            let far = rng.bits();
+            draft.choice = rng.pick(&[limit, limit + 1, 1 << 32, 1 << 63, u64::MAX, far]);
+        }
+        16 if draft.kind < 5 && rng.once_in(2) => too_large(rng, &mut draft.blend),
+        16 => too_small(rng, &mut draft.blend),
+        17 => spoil_sum(rng, &mut draft.blend.fractions),
         _ => {}
+    }
+}
+
+/// Co-volumes so small that the maximum density overflows, or nearly so; a and b stay above 0.
+fn too_small(rng: &mut Rng, blend: &mut Blend) {
+    for record in &mut blend.coefficients {
+        record.tc = rng.log_between(1e-7, 5e-7);
+        record.pc = rng.log_between(1e308, 1.7e308);
+    }
+}
+
+/// Co-volumes just below the end of the range: with fractions that add up to a little more than 1 theirs overflows, and
+/// the maximum density is 0.
+fn too_large(rng: &mut Rng, blend: &mut Blend) {
+    let covolume = f64::MAX * (1.0 - 4e-10);
+    for record in &mut blend.coefficients {
+        record.pc = rng.log_between(1e-306, 5e-304);
+        record.tc = covolume / (0.0778 / PASCAL) * record.pc;
+    }
+    add_up_to(&mut blend.fractions, 1.0 + 9e-10);
+}
+
+/// Fractions that do not add up, or only just.
+fn spoil_sum(rng: &mut Rng, fractions: &mut [f64]) {
+    let i = rng.below(fractions.len());
+    match rng.below(8) {
+        0 | 1 => at_limit(rng, fractions),
+        2 if fractions.len() > 2 => at_limit_by_order(rng, fractions),
+        2 | 3 => {
+            let off = rng.pick(&[1e-8, 5e-9, 1e-10]);
+            scale(fractions, 1.0 + rng.pick(&[off, -off]));
+        }
+        // percentages, per mille, and worse
+        4 | 5 => scale(
+            fractions,
+            rng.pick(&[100.0, 1000.0, 0.01, 1e6, 1e300, 1e-300]),
+        ),
+        6 => fractions.fill(rng.pick(&[0.0, 1.0, f64::MAX])),
+        // one missing, or too much of one
+        _ => fractions[i] = rng.pick(&[0.0, 1.0, 100.0, f64::MAX]),
     }
 }
 
@@ -515,9 +620,10 @@ pub fn request(rng: &mut Rng) -> [u8; REQUEST] {
     };
     fill_unused(rng, &mut draft);
     let faults: Vec<u8> = match theme {
-        88..=95 => vec![11 + rng.below(6) as u8],
+        87 => vec![17],
+        88..=95 => vec![11 + rng.below(7) as u8],
         96..=97 => (0..2 + rng.below(3))
-            .map(|_| 11 + rng.below(6) as u8)
+            .map(|_| 11 + rng.below(7) as u8)
             .collect(),
         _ => vec![],
     };

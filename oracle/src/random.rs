@@ -127,7 +127,7 @@ pub struct Blend {
     pub fractions: Vec<f64>,
 }
 
-/// n of the fluids, each slightly changed, with small interactions and fractions that add up to about 1.
+/// n of the fluids, each slightly changed, with small interactions and fractions that add up to 1 but for rounding.
 pub fn blend(rng: &mut Rng, n: usize) -> Blend {
     let coefficients = (0..n)
         .map(|_| {

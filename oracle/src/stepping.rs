@@ -49,7 +49,7 @@ impl Stored {
             && self.way <= 3
             && self.rounds <= 49;
         let zeros = [self.stage, self.tag, self.left, self.way, self.rounds];
-        of_search || (zeros == [0; 5] && (11..=16).contains(&self.status))
+        of_search || (zeros == [0; 5] && (11..=17).contains(&self.status))
     }
 
     /// Status and values for the record; 22 where the numbers are no end.

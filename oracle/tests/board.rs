@@ -32,6 +32,19 @@ fn steps_are_the_run() {
     }
 }
 
+/// The end of a job that its data refuse: 11 to 17, all else 0.
+#[test]
+fn stored_data_refusals() {
+    for status in 0..40 {
+        let mut stored = start(&Err(status));
+        assert_eq!(stored.status, status);
+        let fits = status == 0 || (11..=17).contains(&status) || (21..=27).contains(&status);
+        assert_eq!(stored.fits(), fits, "{status}");
+        stored.rounds = 1;
+        assert_eq!(stored.fits(), fits && !(11..=17).contains(&status));
+    }
+}
+
 #[test]
 fn a_job_on_the_board() {
     let mut board = [0; BOARD];
@@ -66,4 +79,29 @@ fn a_job_on_the_board() {
         [0, 0, 0, 0, 0, 0, 0, 0, 3, 2, 0, 0, 0, 0, 0, 0]
     );
     assert_eq!(record[RECORD], 0xa5);
+}
+
+/// What the sum of the fractions refuses keeps its place for the span, and has zeros behind the status.
+#[test]
+fn a_refused_sum_on_the_board() {
+    let status = |r: &[u8; 2 + BLOCK]| match run_request(r[0], r[1], r[2..].try_into().unwrap()) {
+        oracle::Answer::Sealed { status, .. } => status,
+        oracle::Answer::Refused(_) => 0,
+    };
+    let mut refused = requests(3, 20_000).filter(|r| r[0] == 4 && r[1] > 1);
+    let request = refused.find(|r| status(r) == 17).unwrap();
+    let (mut board, mut record) = ([0; BOARD], [0xa5; RECORD]);
+    board::submit(&mut board, 0, 4, request[1].into(), &request[2..]);
+    for _ in 0..29 * 4 {
+        assert_eq!(board::turn(&mut board, &mut record), Answer::Turned(0));
+        let (evaluations, density) = (0, 0);
+        let shown = Answer::Shown {
+            evaluations,
+            density,
+        };
+        assert_eq!(board::look(&board, 0), shown);
+    }
+    assert_eq!(board::turn(&mut board, &mut record), Answer::Turned(1));
+    assert_eq!(board::get(&record, 16), 17);
+    assert_eq!(record[24..], [0; 40]);
 }

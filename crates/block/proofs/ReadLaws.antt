@@ -2,7 +2,7 @@
 use mathlib.Core.Path.{_≡_, refl, sym, ap, _∙_}
 use Prim.Native.Nat.{ℕ, _+_, _-_, _*_, _≤_, _<_}
 use native.Mathlib.Omega.{arith}
-use mathlib.Core.Bool.{Bool, true, false, cond}
+use mathlib.Core.Bool.{Bool, true, false, cond, not, _||_}
 use mathlib.Core.List.{List}
 use lib.Dec.{ltb}
 use lib.Ieee.{Float, nan}
@@ -11,11 +11,12 @@ use Rattle.float.specs.Ops.{f0}
 use Rattle.float.specs.Sign.{finiteOf, negativeOf}
 use Rattle.buf.specs.Bytes.{f64At}
 use Rattle.eos.specs.Cubic.{componentOf}
+use Rattle.eos.proofs.Totals.{total-same}
 use Rattle.eos.specs.declared.types.Component.{Component}
 use Rattle.block.specs.Lists.{tabulate, allBelow}
-use Rattle.block.specs.Numbers.{floatsAt}
+use Rattle.block.specs.Numbers.{floatsAt, readsFractions}
 use Rattle.block.specs.Blend.{at, ofRow, componentAt}
-use Rattle.block.specs.Checks.{positive, componentFits, fractionFits}
+use Rattle.block.specs.Checks.{positive, componentFits, fractionFits, fractionSum, nearOne, sumFits}
 use Rattle.block.proofs.PairLaws.{both}
 use Rattle.block.proofs.Lists.{getD-tabulate, tabulate-same, upto, all-rest}
 
@@ -118,3 +119,11 @@ fractions-all count n s from i a b c m h =
     sym h
     ∙ ap (λ (t : ℕ). allBelow t (fractionTest (floatsAt count s from))) q
     ∙ all-rest (fractionTest (floatsAt count s from)) count n c (λ k l g. ap fractionFits (sym (read-past count s from k l (omega arith))) ∙ zero-fits)
+
+-- ---- the sum of the fractions
+
+-- a row of eight has all that are added
+pub sum-row : (kind n : ℕ) (row : List Float) → 1 ≤ n → n ≤ 8 → sumFits kind n (tabulate 8 (λ i. at row i)) ≡ sumFits kind n row
+unfolding sumFits fractionSum
+sum-row kind n row h m =
+    ap (λ (sum : Float). not (readsFractions kind) || nearOne sum) (total-same n _ _ h (λ i l. getD-tabulate 8 (λ i. at row i) i nan (omega arith)))

@@ -1,12 +1,13 @@
--- The checks of the supplier's data, 12 to 16, on the numbers that a job reads. Document 01's sentences are quoted above the definitions. Definitions only.
+-- The checks of the supplier's data, 12 to 17, on the numbers that a job reads. Sentences of documents 01 and 02 are quoted above the definitions. Definitions only.
 use Prim.Native.Nat.{ℕ, _+_, _*_}
 use mathlib.Core.Bool.{Bool, cond, not, _&&_, _||_}
 use mathlib.Core.List.{List}
 use lib.Dec.{ltb, eqb}
-use lib.Ieee.{Float, binary64, lt, toBits}
-use Rattle.float.specs.Ops.{f0}
-use Rattle.float.specs.Sign.{finiteOf, negativeOf}
+use lib.Ieee.{Float, binary64, lt, le, toBits, ofBits}
+use Rattle.float.specs.Ops.{_⊖_, f0, f1}
+use Rattle.float.specs.Sign.{finiteOf, negativeOf, absOf}
 use Rattle.eos.specs.declared.types.Component.{Component}
+use Rattle.eos.specs.Indices.{total}
 use Rattle.eos.specs.Cubic.{componentOf}
 use Rattle.block.specs.Lists.{allBelow}
 use Rattle.block.specs.Numbers.{interactionCount, readsFractions, zeroIsNone}
@@ -42,6 +43,22 @@ fractionFits x = finiteOf x && not (negativeOf x)
 -- "14 a read fraction not finite or with a minus sign"
 unfoldable pub fractionsFit : (n : ℕ) → List Float → Bool
 fractionsFit n row = allBelow n (λ i. fractionFits (at row i))
+
+-- the float nearest to 10^−9
+abbrev pub d1e-9 : Float
+d1e-9 = ofBits binary64 0x3e11_2e0b_e826_d695
+
+-- "their sum in ascending order of index"
+unfoldable pub fractionSum : (n : ℕ) → List Float → Float
+fractionSum n row = total n (λ i. at row i)
+
+-- "must .. differ from 1 by at most 1e-9"
+unfoldable pub nearOne : Float → Bool
+nearOne sum = le (absOf (sum ⊖ f1)) d1e-9
+
+-- "17, sum of fractions", "where a kind reads fractions"
+unfoldable pub sumFits : (kind n : ℕ) → List Float → Bool
+sumFits kind n row = not (readsFractions kind) || nearOne (fractionSum n row)
 
 unfoldable pub temperatureFits : (kind : ℕ) → Float → Bool
 temperatureFits kind t = positive t || (zeroIsNone kind && plusZero t)

@@ -1,9 +1,9 @@
-// The checks 12, 14, 15 and 16 of the supplier's data: one component, one fraction, the conditions, the choice.
+// The checks 12 and 14 to 17 of the supplier's data: one component, one fraction, the sum of the fractions, the conditions, the choice.
 ghost use mathlib.Core.Path.{_≡_};
 ghost use Prim.Native.Nat.{_+_, _≤_};
 ghost use lib.ListN.{length};
 ghost use Rattle.buf.specs.Bytes.{f64At};
-ghost use Rattle.block.specs.Checks.{positive as positiveOf, plusZero, parametersFit, componentFits, fractionFits, temperatureFits, conditionsFit, choices as choicesOf, choiceFits};
+ghost use Rattle.block.specs.Checks.{positive as positiveOf, plusZero, parametersFit, componentFits, fractionFits, fractionSum, nearOne, sumFits, temperatureFits, conditionsFit, choices as choicesOf, choiceFits};
 use crate::numbers::reads_fractions;
 use crate::numbers::zero_is_none;
 use crate::types::Conditions;
@@ -73,6 +73,36 @@ pub fn fraction_fits(x: f64) -> bool
         return !float::is_negative(x);
     }
     false
+}
+
+// The sum of the fractions, from the first.
+fn fraction_sum(n: usize, x: &[f64; 8]) -> f64
+    requires { ⌜ (1 ≤ n) × (n ≤ 8) ⌝ }
+    ensures { λ r. ⌜ r ≡ fractionSum n (now (x .entry)) ⌝ }
+{
+    let mut s = x[0];
+    let mut i: usize = 1;
+    while i < n {
+        s = s + x[i];
+        i += 1;
+    }
+    s
+}
+
+fn near_one(sum: f64) -> bool
+    ensures { λ r. ⌜ r ≡ nearOne sum ⌝ }
+{
+    float::abs(sum - 1.0) <= 1e-9
+}
+
+pub fn sum_fits(kind: u64, n: usize, x: &[f64; 8]) -> bool
+    requires { ⌜ (1 ≤ n) × (n ≤ 8) ⌝ }
+    ensures { λ r. ⌜ r ≡ sumFits kind n (now (x .entry)) ⌝ }
+{
+    if !reads_fractions(kind) {
+        return true;
+    }
+    near_one(fraction_sum(n, x))
 }
 
 fn temperature_fits(kind: u64, t: f64) -> bool

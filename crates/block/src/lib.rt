@@ -14,6 +14,7 @@ pub use crate::checks::choice_fits;
 pub use crate::checks::conditions_fit;
 pub use crate::checks::is_plus_zero;
 pub use crate::checks::positive;
+pub use crate::checks::sum_fits;
 pub use crate::numbers::conditions;
 pub use crate::numbers::reads_fractions;
 pub use crate::pairs::offset;

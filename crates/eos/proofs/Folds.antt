@@ -1,5 +1,5 @@
 -- Folds over the indices, as loops make them: exactly, and in the first w coefficients of a jet. Assumes nothing.
-use mathlib.Core.Path.{_≡_, sym, ap, _∙_}
+use mathlib.Core.Path.{_≡_, refl, sym, ap, _∙_}
 use Prim.Native.Nat.{ℕ, zero, suc, _+_, _-_, _≤_, _<_}
 use native.Mathlib.Omega.{arith}
 use native.Mathlib.Numerals.{add-one}
@@ -20,6 +20,12 @@ fold-end f n i s h = let e : n - i ≡ 0 = omega arith in rw e
 
 pub fold-turn : {A : Type 0} (f : A → ℕ → A) (n i : ℕ) (s t w : A) → i < n → t ≡ f s i → foldFrom f (n - i) i s ≡ w → foldFrom f (n - (i + 1)) (i + 1) t ≡ w
 fold-turn f n i s t w h g e = rw g (sym (fold-next f n i s h) ∙ e)
+
+-- two folds whose steps are the same at the indices that they pass
+pub fold-same : {A : Type 0} (f g : A → ℕ → A) (k i : ℕ) (s : A) → ((j : ℕ) (t : A) → i ≤ j → j < i + k → f t j ≡ g t j) → foldFrom f k i s ≡ foldFrom g k i s
+unfolding foldFrom
+fold-same f g zero i s h = refl
+fold-same f g (suc k) i s h = fold-same f g k (suc i) (f s i) (λ j t l m. h j t (omega arith) (omega arith)) ∙ ap (foldFrom g k (suc i)) (h i s (omega arith) (omega arith))
 
 -- ---- jets, in their first w coefficients
 

@@ -1,5 +1,5 @@
 -- The totals of specs/Indices.antt as loops from the first term, and which jets they keep alike. Assumes nothing.
-use mathlib.Core.Path.{_≡_, refl, sym, subst}
+use mathlib.Core.Path.{_≡_, refl, sym, ap, _∙_, subst}
 use Prim.Native.Nat.{ℕ, _+_, _-_, _≤_, _<_}
 use native.Mathlib.Omega.{arith}
 use native.Mathlib.Numerals.{add-one}
@@ -9,16 +9,16 @@ use mathlib.Core.List.{List, []}
 use lib.ListN.{length, set}
 use lib.Seq.{getD-set-same, getD-set-other}
 use lib.Ieee.{Float, nan}
-use Rattle.float.specs.Ops.{f0}
+use Rattle.float.specs.Ops.{_⊕_, f0}
 use Rattle.jet.specs.declared.Jet.{Jet}
 use Rattle.jet.specs.Coefficients.{Upto, numberOf}
 use Rattle.jet.specs.Ops.{_⊞_, _⊠_}
 use Rattle.jet.proofs.Prefix.{add-upto}
 use Rattle.jet.proofs.Depends.{product-first}
-use Rattle.eos.specs.Indices.{jetTotal}
+use Rattle.eos.specs.Indices.{foldFrom, total, jetTotal}
 use Rattle.eos.specs.Jets.{jetAt}
 use Rattle.eos.specs.Cubic.{nth, mixTerm, mixRow, akMix, bMix}
-use Rattle.eos.proofs.Folds.{Keeps, fold-cong, fold-keeps}
+use Rattle.eos.proofs.Folds.{Keeps, fold-same, fold-cong, fold-keeps}
 use Rattle.eos.proofs.Chain.{mixTerm-cong}
 
 -- adding a jet that hangs on the index alone
@@ -31,6 +31,11 @@ unfolding jetTotal
 total-cong w n f g h e =
     fold-cong w (λ s i. s ⊞ f i) (λ s i. s ⊞ g i) (n - 1) 1
     (λ j s t l m d. add-upto w s t (s ⊞ f j) d (f j) (g j) (e j (omega arith)) refl) (f 0) (g 0) (e 0 h)
+
+-- the same terms give the same total
+pub total-same : (n : ℕ) (f g : ℕ → Float) → 1 ≤ n → ((i : ℕ) → i < n → f i ≡ g i) → total n f ≡ total n g
+unfolding total
+total-same n f g h e = fold-same (λ s i. s ⊕ f i) (λ s i. s ⊕ g i) (n - 1) 1 (f 0) (λ j t l m. ap (λ (y : Float). t ⊕ y) (e j (omega arith))) ∙ ap (foldFrom (λ s i. s ⊕ g i) (n - 1) 1) (e 0 h)
 
 -- ---- arrays, filled one after the other
 

@@ -9,10 +9,14 @@ use Rattle.float.specs.Root.{isqrtIn, isqrt, sticky, rootOf as floatRootOf, roo
 use Rattle.float.specs.Ln.{oddRecip, horner, series, reducedLn, lnAt, lnUnits, lnOf}
 use Rattle.jet.specs.Positions.{notAbove, among, pairsOf, before, between, weightOf}
 use Rattle.jet.specs.Coefficients.{build, numberOf, markedOf, less, quotientAt, quotientOf, recipOf, rootAt, rootOf, logarithmAt, logarithmOf}
+use Rattle.float.specs.Sign.{absOf}
+use Rattle.eos.specs.Indices.{foldFrom, total}
+use Rattle.block.specs.Numbers.{readsFractions}
+use Rattle.block.specs.Checks.{fractionSum, nearOne, sumFits}
 use Rattle.schedule.specs.Schedule.{Call, Submit, submitVerdict, verdict, put, entered, submitted, acts, judged, happens, events, fresh, mapCall}
 use Rattle.board_spec.specs.Run.{Bytes, fieldsOf, publicEvent}
 use Rattle.board_spec.proofs.Runs.{public-told}
-use Rattle.near_cases.specs.NearCases.{FloatCases, JetCases, submits, answers, BoardCases, NearCases}
+use Rattle.near_cases.specs.NearCases.{FloatCases, JetCases, SumCases, submits, answers, BoardCases, NearCases}
 
 float-cases : FloatCases
 unfolding root floatRootOf sticky isqrt isqrtIn lnOf lnUnits lnAt reducedLn series horner oddRecip above ofBits ofInt neg size round add sub mul div le
@@ -31,6 +35,21 @@ jet-cases = record {
   recip-of-1-plus-e0 = refl;
   root-of-1-plus-e0 = refl;
   ln-of-1-plus-e0 = refl;
+}
+
+sum-cases : SumCases
+unfolding ofBits neg size round add sub le absOf foldFrom total readsFractions fractionSum nearOne sumFits
+sum-cases = record {
+  above = refl;
+  above-next = refl;
+  below = refl;
+  below-next = refl;
+  zeros = refl;
+  overflow = refl;
+  from-the-first = refl;
+  the-other-way = refl;
+  hundredfold = refl;
+  not-read = refl;
 }
 
 -- so many submits with a block of 640 bytes, by their public fields
@@ -57,4 +76,4 @@ board-cases = record {
 }
 
 pub near-cases : NearCases
-near-cases = record { floats = float-cases; jets = jet-cases; board = board-cases }
+near-cases = record { floats = float-cases; jets = jet-cases; sums = sum-cases; board = board-cases }

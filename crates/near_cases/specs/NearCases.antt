@@ -1,16 +1,18 @@
--- Document 01's near cases that are marked M, as one list: a record for each layer, and `NearCases` of all. They speak of the definitions.
+-- Document 01's near cases that are marked M, and those of document 02's sum of fractions, as one list: a record for each layer, and `NearCases` of all. They
+-- speak of the definitions.
 use Prim.Native.Nat.{ℕ, zero, suc, _-_}
 use mathlib.Core.Path.{_≡_}
-use mathlib.Core.Bool.{false}
+use mathlib.Core.Bool.{true, false}
 use mathlib.Core.List.{List, [], _∷_, map}
 use lib.ListN.{length, replicate}
 use lib.IntN.{ℤ, pos, negsuc}
-use lib.Ieee.{Float, fin, neg, binary64, ofBits}
+use lib.Ieee.{Float, inf, fin, neg, binary64, ofBits}
 use Rattle.float.specs.Ops.{f0, f1, f2}
 use Rattle.float.specs.Root.{root}
 use Rattle.float.specs.Ln.{ln2, lnOf}
 use Rattle.schedule.specs.Schedule.{Submit}
 use Rattle.board_spec.specs.Run.{Bytes, Calls, Public, refusal, ticketed, zeroBoard, replies, publicOf}
+use Rattle.block.specs.Checks.{nearOne, sumFits}
 use Rattle.jet.specs.Positions.{positions}
 use Rattle.jet.specs.Coefficients.{markedOf, recipOf, rootOf, logarithmOf}
 
@@ -41,6 +43,33 @@ pub record JetCases : Type 0 where
   pub root-of-1-plus-e0 : rootOf one-plus-e0 ≡ in-e0 f1 (twoTo (negsuc 0)) (neg (twoTo (negsuc 2))) (twoTo (negsuc 3))
   pub ln-of-1-plus-e0 : logarithmOf one-plus-e0 ≡ in-e0 f0 f1 (neg (twoTo (negsuc 0))) (ofBits binary64 0x3FD5555555555555)
 
+-- the floats next to 1, on either side, that are the last within 1e-9 of it
+abbrev pub last-above : Float
+last-above = ofBits binary64 0x3FF0_0000_0044_B82F
+
+abbrev pub last-below : Float
+last-below = ofBits binary64 0x3FEF_FFFF_FF76_8FA1
+
+-- 3·2^−55: one is lost in a sum near 1, two together are not
+abbrev pub speck : Float
+speck = fin false 3 (negsuc 54)
+
+abbrev pub percentages : List Float
+percentages = ofBits binary64 0x4049_0000_0000_0000 ∷ ofBits binary64 0x4049_0000_0000_0000 ∷ []
+
+-- "their sum in ascending order of index must .. differ from 1 by at most 1e-9", "where a kind reads fractions"
+pub record SumCases : Type 0 where
+  pub above : nearOne last-above ≡ true
+  pub above-next : nearOne (ofBits binary64 0x3FF0_0000_0044_B830) ≡ false
+  pub below : nearOne last-below ≡ true
+  pub below-next : nearOne (ofBits binary64 0x3FEF_FFFF_FF76_8FA0) ≡ false
+  pub zeros : nearOne f0 ≡ false
+  pub overflow : nearOne (inf false) ≡ false
+  pub from-the-first : sumFits 1 3 (last-above ∷ speck ∷ speck ∷ []) ≡ true
+  pub the-other-way : sumFits 1 3 (speck ∷ speck ∷ last-above ∷ []) ≡ false
+  pub hundredfold : sumFits 4 2 percentages ≡ false
+  pub not-read : sumFits 5 2 percentages ≡ true
+
 -- so many submits of the same job to queue 0
 unfoldable pub submits : (times kind n : ℕ) → Bytes → Calls
 submits zero kind n block = []
@@ -63,4 +92,5 @@ pub record BoardCases : Type 0 where
 pub record NearCases : Type 0 where
   pub floats : FloatCases
   pub jets : JetCases
+  pub sums : SumCases
   pub board : BoardCases

@@ -30,9 +30,10 @@ unfolding SameData
 same-data kind n d e q =
     stage _ _ _ (rw q) (λ _. rw q)
     (λ _. stage _ _ _ (rw q) (λ _. rw q)
+    (λ _. stage _ _ _ (rw q) (λ _. tt)
     (λ _. stage _ _ _ (rw q) (λ _. rw q)
     (λ _. stage _ _ _ (rw q) (λ _. record { in-temperature = rw q; in-pressure = rw q; in-start = rw q })
-    (λ _. stage _ _ _ (rw q) (λ _. rw q) (λ _. tt)))))
+    (λ _. stage _ _ _ (rw q) (λ _. rw q) (λ _. tt))))))
 
 pub bytes-numbers : (kind n : ℕ) (s t : List ℕ) → SameBytes kind n s t → SameNumbers kind n s t
 bytes-numbers kind n s t a = record {
@@ -63,9 +64,10 @@ data-alike kind n d e a =
     stage-same 12 _ _ a
     (λ ec a₁. stage-same 13 _ _ a₁
     (λ ei a₂. stage-same 14 _ _ a₂
-    (λ ex a₃. stage-same 15 _ _ a₃
-    (λ es a₄. stage-same 16 _ _ a₄
-    (λ eq _. ap (readyJob kind n) (all-same d e ec ei ex es eq))))))
+    (λ _ a₃. stage-same 17 _ _ a₃
+    (λ ex a₄. stage-same 15 _ _ a₄
+    (λ es a₅. stage-same 16 _ _ a₅
+    (λ eq _. ap (readyJob kind n) (all-same d e ec ei ex es eq)))))))
 
 pub numbers-alike : (kind n : ℕ) (s t : List ℕ) → SameNumbers kind n s t → Alike kind n s t
 unfolding view

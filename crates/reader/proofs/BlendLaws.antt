@@ -1,4 +1,4 @@
--- The blend and the checks 12 to 14 from what the readers of a block's parts answer. Assumes nothing.
+-- The blend and the checks 12 to 14 and 17 from what the readers of a block's parts answer. Assumes nothing.
 use mathlib.Core.Path.{_≡_, refl, sym, ap, _∙_}
 use Prim.Native.Nat.{ℕ, _-_, _*_, _/_, _%_, _≤_, _<_}
 use native.Mathlib.Omega.{arith}
@@ -19,7 +19,8 @@ use Rattle.block.specs.Lists.{tabulate}
 use Rattle.block.specs.Pairs.{offsetOf, coefficients, interactions, fractions, conditions}
 use Rattle.block.specs.Numbers.{floatsAt, readsFractions, fractionCount, conditionsOf, numbersOf}
 use Rattle.block.specs.Blend.{at, componentAt, interactionAt, blendOf}
-use Rattle.block.specs.Checks.{positive, componentsFit, interactionsFit, fractionsFit, conditionsFit, choices, choiceFits}
+use Rattle.block.specs.Checks.{positive, componentsFit, interactionsFit, fractionsFit, sumFits, conditionsFit, choices, choiceFits}
+use Rattle.block.proofs.ReadLaws.{sum-row}
 use Rattle.reader.specs.View.{taskOf, searched, refused, check, runFits, lastChecks, checked}
 use Rattle.reader.specs.Reading.{notRefused, Reads, searchedCount}
 
@@ -61,6 +62,12 @@ module _ (kind n : ℕ) (s : List ℕ) {i : ℕ} {r t : Bool} where
   unfolding numbersOf
   fractions-fit ei er e = rw (← ei) (sym er ∙ e)
 
+-- the sum of the fractions as they are read into a row of eight
+pub sum-fit : (kind n : ℕ) (s : List ℕ) {l : ℕ} {x : List Float} {r t : Bool} → 1 ≤ n → n ≤ 8 → l ≡ offsetOf s fractions → x ≡ tabulate 8 (λ i. at (floatsAt (fractionCount kind n) s l) i) → r ≡ sumFits kind n x → r ≡ t
+    → sumFits kind n (numbersOf kind n s .fractions) ≡ t
+unfolding numbersOf
+sum-fit kind n s h m el ex er e = rw (← el) (sym (rw ex at er ∙ sum-row kind n _ h m) ∙ e)
+
 -- the second row where one component is searched
 pub unread : (kind : ℕ) (read : List Float) → readsFractions kind ≡ false → cond (readsFractions kind) read (replicate 64 f0) ≡ replicate 64 f0
 unread kind read t = rw t
@@ -85,10 +92,15 @@ module _ (kind n : ℕ) (d : Numbers) (task : Task) (rows : Blend) where
   unfolding checked
   refused-14 p q r e = rw (p, q, r) (refused-reads 14 task rows e)
 
-  pub passed-14 : (c : Conditions) (whole : Blend) → componentsFit n (d .coefficients) ≡ true → interactionsFit n (d .interactions) ≡ true → fractionsFit n (d .fractions) ≡ true → c ≡ d .conditions
+  pub refused-17 : componentsFit n (d .coefficients) ≡ true → interactionsFit n (d .interactions) ≡ true → fractionsFit n (d .fractions) ≡ true → sumFits kind n (d .fractions) ≡ false → task ≡ Refused 17
+      → Reads (checked kind n d) task rows
+  unfolding checked
+  refused-17 p q r s e = rw (p, q, r, s) (refused-reads 17 task rows e)
+
+  pub passed-17 : (c : Conditions) (whole : Blend) → componentsFit n (d .coefficients) ≡ true → interactionsFit n (d .interactions) ≡ true → fractionsFit n (d .fractions) ≡ true → sumFits kind n (d .fractions) ≡ true → c ≡ d .conditions
       → searched kind (c .choice) whole ≡ searched kind (c .choice) (blendOf n d) → Reads (lastChecks kind n c whole) task rows → Reads (checked kind n d) task rows
   unfolding checked runFits lastChecks blendOf
-  passed-14 c whole p q r ec eb e = rw (p, q, r, ← ec) (rw eb at e)
+  passed-17 c whole p q r s ec eb e = rw (p, q, r, s, ← ec) (rw eb at e)
 
 module _ (kind n : ℕ) (c : Conditions) (whole : Blend) (task : Task) (rows : Blend) where
   pub refused-15 : conditionsFit kind c ≡ false → task ≡ Refused 15 → Reads (lastChecks kind n c whole) task rows

@@ -1,11 +1,12 @@
 -- What holds of every refusal and of the job that passes every check holds of every view: the walk along the checks, once. Likewise along the kinds. Assumes nothing.
 use mathlib.Core.Path.{_≡_, refl, ap, _∙_}
 use Prim.Native.Nat.{ℕ}
-use mathlib.Core.Bool.{Bool, true, false, cond, _&&_, false≢true}
+use mathlib.Core.Bool.{Bool, true, false, cond, false≢true}
 use mathlib.Core.List.{List, [], _∷_}
 use lib.ListN.{length}
-use lib.Dec.{leb, eqb}
-use borrow.Author.Tests.{eq-eqb}
+use lib.Dec.{leb, ltb, eqb}
+use native.Mathlib.Omega.{arith}
+use borrow.Author.Tests.{leb-true, lt-ltb, eq-eqb}
 use types.Run.{OneOf, miss}
 use denote.Enum.Declared.{tagOf}
 use Rattle.schedule.specs.Spans.{kindFits, countFits}
@@ -19,8 +20,8 @@ use Rattle.reader.specs.declared.types.Job.{Job}
 use Rattle.block.specs.Pairs.{pairsFit}
 use Rattle.block.specs.Numbers.{numbersOf}
 use Rattle.block.specs.Blend.{blendOf}
-use Rattle.block.specs.Checks.{componentsFit, interactionsFit, fractionsFit, conditionsFit}
-use Rattle.reader.specs.View.{initialOf, branchOf, givenOf, taskOf, refused, check, runBlend, runFits, lastChecks, checked, view}
+use Rattle.block.specs.Checks.{componentsFit, interactionsFit, fractionsFit, sumFits, conditionsFit}
+use Rattle.reader.specs.View.{initialOf, branchOf, givenOf, taskOf, refused, check, ofData, runBlend, runFits, lastChecks, checked, view}
 use Rattle.reader.specs.Reading.{notRefused}
 use Rattle.reader.proofs.types.Task.{the-type}
 
@@ -28,9 +29,13 @@ use Rattle.reader.proofs.types.Task.{the-type}
 abbrev pub readyJob : (kind n : ℕ) → Numbers → Job
 readyJob kind n d = record { task = taskOf kind (d .conditions); blend = runBlend kind n d }
 
--- a number of the data's, 11 to 16
 abbrev pub OfData : ℕ → Type 0
-OfData number = leb 11 number && leb number 16 ≡ true
+OfData number = ofData number ≡ true
+
+-- the search's refusals are from 21 on
+pub of-data-low : (number : ℕ) → OfData number → ltb number 21 ≡ true
+unfolding ofData
+of-data-low number e = let h = leb-true number 17 (right-true (leb 11 number) (leb number 17) e) in lt-ltb number 21 (omega arith)
 
 module _ (P : Job → Type 0) where
   check-keeps : (ok : Bool) (number : ℕ) (next : Job) → P (refused number) → P next → P (check ok number next)
@@ -40,23 +45,24 @@ module _ (P : Job → Type 0) where
   -- 11 and on
   data-keeps : (kind n : ℕ) (s : List ℕ) → ((number : ℕ) → OfData number → P (refused number)) → P (readyJob kind n (numbersOf kind n s))
       → P (check (pairsFit n s) 11 (checked kind n (numbersOf kind n s)))
-  unfolding checked lastChecks
+  unfolding checked lastChecks ofData
   data-keeps kind n s r h =
       let d = numbersOf kind n s in
       check-keeps (pairsFit n s) 11 _ (r 11 refl)
       (check-keeps (componentsFit n (d .coefficients)) 12 _ (r 12 refl)
       (check-keeps (interactionsFit n (d .interactions)) 13 _ (r 13 refl)
       (check-keeps (fractionsFit n (d .fractions)) 14 _ (r 14 refl)
+      (check-keeps (sumFits kind n (d .fractions)) 17 _ (r 17 refl)
       (check-keeps (conditionsFit kind (d .conditions)) 15 _ (r 15 refl)
-      (check-keeps (runFits kind n (d .conditions) (blendOf n d)) 16 _ (r 16 refl) h)))))
+      (check-keeps (runFits kind n (d .conditions) (blendOf n d)) 16 _ (r 16 refl) h))))))
 
-  -- any request; no refusal's number is above 16
-  pub view-keeps : (kind n : ℕ) (s : List ℕ) → ((number : ℕ) → leb number 16 ≡ true → P (refused number)) → P (readyJob kind n (numbersOf kind n s)) → P (view kind n s)
+  -- any request; no refusal's number is a search's
+  pub view-keeps : (kind n : ℕ) (s : List ℕ) → ((number : ℕ) → ltb number 21 ≡ true → P (refused number)) → P (readyJob kind n (numbersOf kind n s)) → P (view kind n s)
   unfolding view
   view-keeps kind n s r h =
       check-keeps (kindFits kind) 2 _ (r 2 refl)
       (check-keeps (countFits n) 3 _ (r 3 refl)
-      (check-keeps (eqb (length s) 640) 8 _ (r 8 refl) (data-keeps kind n s (λ number e. r number (right-true (leb 11 number) (leb number 16) e)) h)))
+      (check-keeps (eqb (length s) 640) 8 _ (r 8 refl) (data-keeps kind n s (λ number e. r number (of-data-low number e)) h)))
 
   -- a request that submit accepts is refused by its data alone
   pub request-keeps : (kind n : ℕ) (s : List ℕ) → kindFits kind ≡ true → countFits n ≡ true → length s ≡ 640 → ((number : ℕ) → OfData number → P (refused number))

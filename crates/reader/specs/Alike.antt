@@ -11,7 +11,7 @@ use Rattle.block.specs.declared.types.Numbers.{Numbers}
 use Rattle.block.specs.Pairs.{pairsFit}
 use Rattle.block.specs.Numbers.{numbersOf}
 use Rattle.block.specs.Blend.{blendOf}
-use Rattle.block.specs.Checks.{componentsFit, interactionsFit, fractionsFit, conditionsFit}
+use Rattle.block.specs.Checks.{componentsFit, interactionsFit, fractionsFit, sumFits, conditionsFit}
 use Rattle.reader.specs.View.{runFits, view}
 
 -- ---- 2. by the numbers, check after check in document 01's order
@@ -28,14 +28,15 @@ pub record SameConditions (c d : Conditions) : Type 0 where
   pub in-pressure : c .pressure ≡ d .pressure
   pub in-start : c .start ≡ d .start
 
--- 12 to 16, a line for each; what 16 is told from besides the choice is the same by then
+-- 12 to 17, a line for each. The fractions that pass 14 may differ where both are refused by 17. What 16 is told from besides the choice is the same by then.
 unfoldable pub SameData : (kind n : ℕ) (d e : Numbers) → Type 0
 SameData kind n d e =
     Stage (componentsFit n) (d .coefficients) (e .coefficients) (d .coefficients ≡ e .coefficients)
     (Stage (interactionsFit n) (d .interactions) (e .interactions) (d .interactions ≡ e .interactions)
-    (Stage (fractionsFit n) (d .fractions) (e .fractions) (d .fractions ≡ e .fractions)
+    (Stage (fractionsFit n) (d .fractions) (e .fractions) (Unit {0})
+    (Stage (sumFits kind n) (d .fractions) (e .fractions) (d .fractions ≡ e .fractions)
     (Stage (conditionsFit kind) (d .conditions) (e .conditions) (SameConditions (d .conditions) (e .conditions))
-    (Stage (λ (d : Numbers). runFits kind n (d .conditions) (blendOf n d)) d e (d .conditions .choice ≡ e .conditions .choice) (Unit {0})))))
+    (Stage (λ (d : Numbers). runFits kind n (d .conditions) (blendOf n d)) d e (d .conditions .choice ≡ e .conditions .choice) (Unit {0}))))))
 
 -- 11, which blocks with other offsets pass too, and then the numbers
 pub record SameNumbers (kind n : ℕ) (s t : List ℕ) : Type 0 where

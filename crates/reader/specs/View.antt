@@ -3,7 +3,7 @@ use Prim.Native.Nat.{ℕ}
 use mathlib.Core.Bool.{Bool, cond, _&&_}
 use mathlib.Core.List.{List}
 use lib.ListN.{length}
-use lib.Dec.{eqb}
+use lib.Dec.{leb, eqb}
 use lib.Ieee.{Float}
 use Rattle.schedule.specs.Spans.{kindFits, countFits}
 use Rattle.eos.specs.declared.types.Blend.{Blend}
@@ -22,7 +22,7 @@ use Rattle.reader.specs.declared.types.Job.{Job}
 use Rattle.block.specs.Pairs.{pairsFit}
 use Rattle.block.specs.Numbers.{readsFractions, numbersOf}
 use Rattle.block.specs.Blend.{blendOf, emptyBlend}
-use Rattle.block.specs.Checks.{positive, plusZero, componentsFit, interactionsFit, fractionsFit, conditionsFit, choiceFits}
+use Rattle.block.specs.Checks.{positive, plusZero, componentsFit, interactionsFit, fractionsFit, sumFits, conditionsFit, choiceFits}
 
 -- "0 vapour, 1 liquid, 2 start"
 unfoldable pub initialOf : (choice : ℕ) → Float → DensityInitialization
@@ -56,6 +56,10 @@ refused number = record { task = Refused number; blend = emptyBlend }
 abbrev pub check : Bool → ℕ → Job → Job
 check ok number next = cond ok next (refused number)
 
+-- the numbers of the data's refusals
+unfoldable pub ofData : ℕ → Bool
+ofData number = leb 11 number && leb number 17
+
 -- the blend that the run searches
 abbrev pub runBlend : (kind n : ℕ) → Numbers → Blend
 runBlend kind n d = searched kind (d .conditions .choice) (blendOf n d)
@@ -68,12 +72,13 @@ runFits kind n c whole = choiceFits kind n (c .choice) && positive (maxDensity (
 unfoldable pub lastChecks : (kind n : ℕ) → Conditions → Blend → Job
 lastChecks kind n c whole = check (conditionsFit kind c) 15 (check (runFits kind n c whole) 16 (record { task = taskOf kind c; blend = searched kind (c .choice) whole }))
 
--- "The supplier's data, sealed, in this order", after 11
+-- "The supplier's data, sealed, in this order", after 11; 17 is "tested directly after 14"
 unfoldable pub checked : (kind n : ℕ) → Numbers → Job
 checked kind n d =
     check (componentsFit n (d .coefficients)) 12
     (check (interactionsFit n (d .interactions)) 13
-    (check (fractionsFit n (d .fractions)) 14 (lastChecks kind n (d .conditions) (blendOf n d))))
+    (check (fractionsFit n (d .fractions)) 14
+    (check (sumFits kind n (d .fractions)) 17 (lastChecks kind n (d .conditions) (blendOf n d)))))
 
 -- "2 kind not 1 to 6; 3 N not 1 to 8; .. 8 block not 640 bytes", in submit's order; then the data
 unfoldable pub view : (kind n : ℕ) → List ℕ → Job

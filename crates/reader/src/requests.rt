@@ -8,7 +8,7 @@ ghost use Rattle.eos.specs.Cubic.{blendBy, maxDensity};
 ghost use Rattle.block.specs.Pairs.{pairsFit};
 ghost use Rattle.block.specs.Numbers.{readsFractions, numbersOf};
 ghost use Rattle.block.specs.Checks.{positive as positiveOf};
-ghost use Rattle.reader.specs.View.{initialOf, branchOf, givenOf, taskOf, refused as refusedOf, check, lastChecks, checked as checkedOf, view as viewOf};
+ghost use Rattle.reader.specs.View.{initialOf, branchOf, givenOf, taskOf, refused as refusedOf, check, ofData, lastChecks, checked as checkedOf, view as viewOf};
 ghost use Rattle.reader.specs.Reading.{Reads, searchedCount};
 use crate::types::Job;
 use crate::types::Task;
@@ -26,6 +26,7 @@ use block::read_components;
 use block::read_fractions;
 use block::read_searched_interactions;
 use block::reads_fractions;
+use block::sum_fits;
 use eos::Blend;
 use solver::DensityInitialization;
 use solver_critical::Start;
@@ -80,6 +81,16 @@ fn task(kind: u64, c: Conditions) -> Task
         return Task::CriticalPoint(given(c.temperature), given(c.start));
     }
     Task::Spinodal(c.temperature)
+}
+
+// Whether a number is one of the data's refusals.
+pub fn of_data(number: u64) -> bool
+    ensures { λ r. ⌜ r ≡ ofData number ⌝ }
+{
+    if number < 11 {
+        return false;
+    }
+    number <= 17
 }
 
 // A task on a blend whose maximum density fits.
@@ -147,6 +158,9 @@ fn checked(
     }
     if !read_fractions(kind, size, block, offset(block, 2), x) {
         return Task::Refused(14);
+    }
+    if !sum_fits(kind, size, x) {
+        return Task::Refused(17);
     }
     let c = conditions(kind, block, offset(block, 3));
     under_conditions(kind, n, c, tc, a, b, kappa, k_ij, x)

@@ -4,8 +4,8 @@ use Prim.Native.Nat.{ℕ}
 use mathlib.Core.Bool.{true, false}
 use mathlib.Core.List.{List}
 use native.Mathlib.Omega.{arith}
-use lib.Dec.{leb, eqb}
-use borrow.Author.Tests.{leb-true, eqb-false, ne-eqb}
+use lib.Dec.{ltb, eqb}
+use borrow.Author.Tests.{ltb-true, eqb-false, ne-eqb}
 use lib.Ieee.{Float}
 use Rattle.eos.specs.Cubic.{maxDensity}
 use Rattle.solver.specs.Answer.{is27}
@@ -52,9 +52,9 @@ numberIn (Spinodal t) = 0
 abbrev Other : Job → Type 0
 Other job = eqb (numberIn (job .task)) 27 ≡ false
 
-refused-other : (number : ℕ) → leb number 16 ≡ true → Other (refused number)
+refused-other : (number : ℕ) → ltb number 21 ≡ true → Other (refused number)
 unfolding refused numberIn
-refused-other number e = let h = leb-true number 16 e in ne-eqb number 27 (λ (z : number ≡ 27). omega arith)
+refused-other number e = let h = ltb-true number 21 e in ne-eqb number 27 (λ (z : number ≡ 27). omega arith)
 
 task-other : (kind : ℕ) (c : Conditions) → eqb (numberIn (taskOf kind c)) 27 ≡ false
 unfolding numberIn

@@ -27,7 +27,7 @@ use Rattle.records.specs.Record.{floatBytes, sealedBytes, sealedOf}
 use Rattle.schedule.specs.Refusals.{Inside}
 use Rattle.schedule.proofs.Refusals.{inside-true}
 use Rattle.schedule.proofs.Tests.{span-within}
-use Rattle.records.specs.Statuses.{SearchStatus, found, Status, of-data, of-search, pairs, components, interactions, fractions, conditions, run, DataTests, Statuses}
+use Rattle.records.specs.Statuses.{SearchStatus, found, Status, of-data, of-search, pairs, components, interactions, fractions, sum, conditions, run, DataTests, Statuses}
 use Rattle.records.proofs.SpanLaws.{evaluations-most}
 
 -- ---- how a search ends
@@ -84,47 +84,50 @@ module _ (kind n : ℕ) (block : List ℕ) (k : Inside 1 6 kind) (c : Inside 1 8
   ready-status = task-status _ _ kind (numbersOf kind n block .conditions)
 
   -- the view, from the tests of its checks
-  abbrev by-checks : (t₁ t₂ t₃ t₄ t₅ t₆ : Bool) → Job
-  by-checks t₁ t₂ t₃ t₄ t₅ t₆ = check t₁ 11 (check t₂ 12 (check t₃ 13 (check t₄ 14 (check t₅ 15 (check t₆ 16 ready)))))
+  abbrev by-checks : (t₁ t₂ t₃ t₄ t₅ t₆ t₇ : Bool) → Job
+  by-checks t₁ t₂ t₃ t₄ t₅ t₆ t₇ = check t₁ 11 (check t₂ 12 (check t₃ 13 (check t₄ 14 (check t₅ 17 (check t₆ 15 (check t₇ 16 ready))))))
 
-  view-is : job ≡ by-checks (pairs kind n block) (components kind n block) (interactions kind n block) (fractions kind n block) (conditions kind n block) (run kind n block)
+  view-is : job ≡ by-checks (pairs kind n block) (components kind n block) (interactions kind n block) (fractions kind n block) (sum kind n block) (conditions kind n block) (run kind n block)
   unfolding view checked lastChecks
   view-is = rw (inside-true 1 6 kind k, inside-true 1 8 n c, eq-eqb (length block) 640 l)
 
   status-tests : DataTests kind n block (outcomeOf job .status)
-  status-tests = rw view-is (go _ _ _ _ _ _ refl refl refl refl refl refl)
+  status-tests = rw view-is (go _ _ _ _ _ _ _ refl refl refl refl refl refl refl)
     where
-      go : (t₁ t₂ t₃ t₄ t₅ t₆ : Bool) → pairs kind n block ≡ t₁ → components kind n block ≡ t₂ → interactions kind n block ≡ t₃ → fractions kind n block ≡ t₄ → conditions kind n block ≡ t₅ → run kind n block ≡ t₆
-          → DataTests kind n block (outcomeOf (by-checks t₁ t₂ t₃ t₄ t₅ t₆) .status)
-      go false t₂ t₃ t₄ t₅ t₆ e₁ e₂ e₃ e₄ e₅ e₆ = rw (refused-status 11) (DataTests.refused-11 e₁)
-      go true false t₃ t₄ t₅ t₆ e₁ e₂ e₃ e₄ e₅ e₆ = rw (refused-status 12) (DataTests.refused-12 e₁ e₂)
-      go true true false t₄ t₅ t₆ e₁ e₂ e₃ e₄ e₅ e₆ = rw (refused-status 13) (DataTests.refused-13 e₁ e₂ e₃)
-      go true true true false t₅ t₆ e₁ e₂ e₃ e₄ e₅ e₆ = rw (refused-status 14) (DataTests.refused-14 e₁ e₂ e₃ e₄)
-      go true true true true false t₆ e₁ e₂ e₃ e₄ e₅ e₆ = rw (refused-status 15) (DataTests.refused-15 e₁ e₂ e₃ e₄ e₅)
-      go true true true true true false e₁ e₂ e₃ e₄ e₅ e₆ = rw (refused-status 16) (DataTests.refused-16 e₁ e₂ e₃ e₄ e₅ e₆)
-      go true true true true true true e₁ e₂ e₃ e₄ e₅ e₆ = DataTests.passed e₁ e₂ e₃ e₄ e₅ e₆ ready-status
+      go : (t₁ t₂ t₃ t₄ t₅ t₆ t₇ : Bool) → pairs kind n block ≡ t₁ → components kind n block ≡ t₂ → interactions kind n block ≡ t₃ → fractions kind n block ≡ t₄ → sum kind n block ≡ t₅ → conditions kind n block ≡ t₆
+          → run kind n block ≡ t₇ → DataTests kind n block (outcomeOf (by-checks t₁ t₂ t₃ t₄ t₅ t₆ t₇) .status)
+      go false t₂ t₃ t₄ t₅ t₆ t₇ e₁ e₂ e₃ e₄ e₅ e₆ e₇ = rw (refused-status 11) (DataTests.refused-11 e₁)
+      go true false t₃ t₄ t₅ t₆ t₇ e₁ e₂ e₃ e₄ e₅ e₆ e₇ = rw (refused-status 12) (DataTests.refused-12 e₁ e₂)
+      go true true false t₄ t₅ t₆ t₇ e₁ e₂ e₃ e₄ e₅ e₆ e₇ = rw (refused-status 13) (DataTests.refused-13 e₁ e₂ e₃)
+      go true true true false t₅ t₆ t₇ e₁ e₂ e₃ e₄ e₅ e₆ e₇ = rw (refused-status 14) (DataTests.refused-14 e₁ e₂ e₃ e₄)
+      go true true true true false t₆ t₇ e₁ e₂ e₃ e₄ e₅ e₆ e₇ = rw (refused-status 17) (DataTests.refused-17 e₁ e₂ e₃ e₄ e₅)
+      go true true true true true false t₇ e₁ e₂ e₃ e₄ e₅ e₆ e₇ = rw (refused-status 15) (DataTests.refused-15 e₁ e₂ e₃ e₄ e₅ e₆)
+      go true true true true true true false e₁ e₂ e₃ e₄ e₅ e₆ e₇ = rw (refused-status 16) (DataTests.refused-16 e₁ e₂ e₃ e₄ e₅ e₆ e₇)
+      go true true true true true true true e₁ e₂ e₃ e₄ e₅ e₆ e₇ = DataTests.passed e₁ e₂ e₃ e₄ e₅ e₆ e₇ ready-status
 
-  search-not : {number : ℕ} → SearchStatus number → Inside 11 16 number → ⊥
+  search-not : {number : ℕ} → SearchStatus number → Inside 11 17 number → ⊥
   search-not found i = omega arith
   search-not (SearchStatus.refused j) i = omega arith
 
-  only-job : (number : ℕ) → Inside 11 16 number → DataTests kind n block number → job ≡ refused number
+  only-job : (number : ℕ) → Inside 11 17 number → DataTests kind n block number → job ≡ refused number
   only-job number i (DataTests.refused-11 e₁) = rw (view-is, e₁)
   only-job number i (DataTests.refused-12 e₁ e₂) = rw (view-is, e₁, e₂)
   only-job number i (DataTests.refused-13 e₁ e₂ e₃) = rw (view-is, e₁, e₂, e₃)
   only-job number i (DataTests.refused-14 e₁ e₂ e₃ e₄) = rw (view-is, e₁, e₂, e₃, e₄)
-  only-job number i (DataTests.refused-15 e₁ e₂ e₃ e₄ e₅) = rw (view-is, e₁, e₂, e₃, e₄, e₅)
-  only-job number i (DataTests.refused-16 e₁ e₂ e₃ e₄ e₅ e₆) = rw (view-is, e₁, e₂, e₃, e₄, e₅, e₆)
-  only-job number i (DataTests.passed e₁ e₂ e₃ e₄ e₅ e₆ s) = absurd (search-not s i)
+  only-job number i (DataTests.refused-17 e₁ e₂ e₃ e₄ e₅) = rw (view-is, e₁, e₂, e₃, e₄, e₅)
+  only-job number i (DataTests.refused-15 e₁ e₂ e₃ e₄ e₅ e₆) = rw (view-is, e₁, e₂, e₃, e₄, e₅, e₆)
+  only-job number i (DataTests.refused-16 e₁ e₂ e₃ e₄ e₅ e₆ e₇) = rw (view-is, e₁, e₂, e₃, e₄, e₅, e₆, e₇)
+  only-job number i (DataTests.passed e₁ e₂ e₃ e₄ e₅ e₆ e₇ s) = absurd (search-not s i)
 
   status-of : {number : ℕ} → DataTests kind n block number → Status number
   status-of (DataTests.refused-11 e₁) = of-data {number = 11} (omega arith)
   status-of (DataTests.refused-12 e₁ e₂) = of-data {number = 12} (omega arith)
   status-of (DataTests.refused-13 e₁ e₂ e₃) = of-data {number = 13} (omega arith)
   status-of (DataTests.refused-14 e₁ e₂ e₃ e₄) = of-data {number = 14} (omega arith)
-  status-of (DataTests.refused-15 e₁ e₂ e₃ e₄ e₅) = of-data {number = 15} (omega arith)
-  status-of (DataTests.refused-16 e₁ e₂ e₃ e₄ e₅ e₆) = of-data {number = 16} (omega arith)
-  status-of (DataTests.passed e₁ e₂ e₃ e₄ e₅ e₆ s) = of-search s
+  status-of (DataTests.refused-17 e₁ e₂ e₃ e₄ e₅) = of-data {number = 17} (omega arith)
+  status-of (DataTests.refused-15 e₁ e₂ e₃ e₄ e₅ e₆) = of-data {number = 15} (omega arith)
+  status-of (DataTests.refused-16 e₁ e₂ e₃ e₄ e₅ e₆ e₇) = of-data {number = 16} (omega arith)
+  status-of (DataTests.passed e₁ e₂ e₃ e₄ e₅ e₆ e₇ s) = of-search s
 
   -- ---- the sealed bytes
 

@@ -1,5 +1,5 @@
 -- The status and the evaluations in a record's sealed bytes, for every request that its caller's refusals let through: which refusal of the supplier's data comes
--- when, in document 01's order, and that nothing but 0, 11 to 16 and 21 to 27 does. Statements only; `statuses` in proofs/Statuses.antt proves them.
+-- when, in their order, and that nothing but 0, 11 to 17 and 21 to 27 does. Statements only; `statuses` in proofs/Statuses.antt proves them.
 use mathlib.Core.Path.{_≡_}
 use Prim.Native.Nat.{ℕ, _≤_}
 use mathlib.Core.Bool.{Bool, true, false}
@@ -8,7 +8,7 @@ use lib.ListN.{length}
 use Rattle.buf.specs.Bytes.{bytesOf, zeros, u64At}
 use Rattle.block.specs.Pairs.{pairsFit}
 use Rattle.block.specs.Numbers.{numbersOf}
-use Rattle.block.specs.Checks.{componentsFit, interactionsFit, fractionsFit, conditionsFit}
+use Rattle.block.specs.Checks.{componentsFit, interactionsFit, fractionsFit, sumFits, conditionsFit}
 use Rattle.block.specs.Blend.{blendOf}
 use Rattle.reader.specs.View.{runFits}
 use Rattle.schedule.specs.Spans.{spanOf}
@@ -22,7 +22,7 @@ pub data SearchStatus : ℕ → Type 0 where
 
 -- "status u64 (0 or a refusal)"
 pub data Status : ℕ → Type 0 where
-  of-data : {number : ℕ} → Inside 11 16 number → Status number
+  of-data : {number : ℕ} → Inside 11 17 number → Status number
   of-search : {number : ℕ} → SearchStatus number → Status number
 
 module _ (kind n : ℕ) (block : List ℕ) where
@@ -38,6 +38,9 @@ module _ (kind n : ℕ) (block : List ℕ) where
 
   abbrev pub fractions : Bool
   fractions = fractionsFit n (numbersOf kind n block .fractions)
+
+  abbrev pub sum : Bool
+  sum = sumFits kind n (numbersOf kind n block .fractions)
 
   abbrev pub conditions : Bool
   conditions = conditionsFit kind (numbersOf kind n block .conditions)
@@ -56,12 +59,14 @@ module _ (kind n : ℕ) (block : List ℕ) where
     refused-13 : pairs ≡ true → components ≡ true → interactions ≡ false → DataTests 13
     -- "14 a read fraction not finite or with a minus sign"
     refused-14 : pairs ≡ true → components ≡ true → interactions ≡ true → fractions ≡ false → DataTests 14
+    -- "17, sum of fractions, .. tested directly after 14"
+    refused-17 : pairs ≡ true → components ≡ true → interactions ≡ true → fractions ≡ true → sum ≡ false → DataTests 17
     -- "15 a used temperature .. used pressure or start not finite"
-    refused-15 : pairs ≡ true → components ≡ true → interactions ≡ true → fractions ≡ true → conditions ≡ false → DataTests 15
+    refused-15 : pairs ≡ true → components ≡ true → interactions ≡ true → fractions ≡ true → sum ≡ true → conditions ≡ false → DataTests 15
     -- "16 choice, or the run's maximum density not finite and positive"
-    refused-16 : pairs ≡ true → components ≡ true → interactions ≡ true → fractions ≡ true → conditions ≡ true → run ≡ false → DataTests 16
+    refused-16 : pairs ≡ true → components ≡ true → interactions ≡ true → fractions ≡ true → sum ≡ true → conditions ≡ true → run ≡ false → DataTests 16
     -- none of these comes, and the status is the search's
-    passed : {status : ℕ} → pairs ≡ true → components ≡ true → interactions ≡ true → fractions ≡ true → conditions ≡ true → run ≡ true → SearchStatus status → DataTests status
+    passed : {status : ℕ} → pairs ≡ true → components ≡ true → interactions ≡ true → fractions ≡ true → sum ≡ true → conditions ≡ true → run ≡ true → SearchStatus status → DataTests status
 
   -- where the sealed bytes hold the status and the evaluations
   abbrev pub statusIn : ℕ
@@ -74,11 +79,11 @@ module _ (kind n : ℕ) (block : List ℕ) where
   pub record Sealed : Type 0 where
     -- the status is the one that the checks tell,
     pub tests : DataTests statusIn
-    -- each of 11 to 16 exactly where its check fails first,
-    pub only : (number : ℕ) → Inside 11 16 number → DataTests number → statusIn ≡ number
+    -- each of 11 to 17 exactly where its check fails first,
+    pub only : (number : ℕ) → Inside 11 17 number → DataTests number → statusIn ≡ number
     -- with +0 and no evaluation after it: "Unused floats, and all on refusal, are +0",
-    pub refused-bytes : (number : ℕ) → Inside 11 16 number → DataTests number → sealedOf kind n block ≡ bytesOf 8 number ++ zeros 40
-    -- and so 0, 11 to 16 or 21 to 27
+    pub refused-bytes : (number : ℕ) → Inside 11 17 number → DataTests number → sealedOf kind n block ≡ bytesOf 8 number ++ zeros 40
+    -- and so 0, 11 to 17 or 21 to 27
     pub status : Status statusIn
     -- "Count of evaluations in the record, .. at most the kind's span"
     pub evaluations : evaluationsIn ≤ spanOf kind

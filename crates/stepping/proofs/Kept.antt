@@ -4,8 +4,8 @@ use Prim.Native.Nat.{ℕ, _+_, _%_, _^_, _<_}
 use native.Mathlib.Omega.{arith}
 use mathlib.Core.Bool.{Bool, true, false, not, _&&_, _||_}
 use mathlib.Core.List.{List}
-use lib.Dec.{leb, ltb, eqb}
-use borrow.Author.Tests.{leb-true, ltb-true, eqb-true}
+use lib.Dec.{ltb, eqb}
+use borrow.Author.Tests.{ltb-true, eqb-true}
 use Rattle.float.specs.Sign.{finiteOf}
 use Rattle.solver.specs.declared.types.Counters.{Counters}
 use Rattle.solver.specs.Search.{Evaluator, next}
@@ -22,6 +22,7 @@ use Rattle.solver_state.proofs.StateLaw.{step-law}
 use Rattle.solver_state.proofs.Ranges.{ranges-kept}
 use Rattle.reader.specs.declared.types.Job as Block
 use Rattle.reader.specs.View.{view}
+use Rattle.reader.proofs.ViewLaws.{of-data-low}
 use Rattle.schedule.proofs.Tests.{left-true, right-true}
 use Rattle.stepping.specs.declared.types.Work.{Work}
 use Rattle.stepping.specs.declared.types.Work.the-variants as Work
@@ -78,7 +79,7 @@ refusal-stored c h =
     let l = eqb-true (c .left) 0 (left-true (eqb (c .left) 0) _ h₁) in
     let w = eqb-true (c .way) 0 (left-true (eqb (c .way) 0) _ h₂) in
     let r = eqb-true (c .rounds) 0 (left-true (eqb (c .rounds) 0) _ h₃) in
-    let s = leb-true (c .status) 16 (right-true (leb 11 (c .status)) _ h₄) in
+    let s = ltb-true (c .status) 21 (of-data-low (c .status) h₄) in
     record { stage = omega arith; tag = omega arith; status = omega arith; left = omega arith; way = omega arith; rounds = omega arith }
 
 -- counters in range can be stored

@@ -3,9 +3,8 @@ use mathlib.Core.Path.{_≡_, refl, sym, ap, _∙_, subst}
 use Prim.Native.Nat.{ℕ, zero, suc, _^_, _<_}
 use native.Mathlib.Omega.{arith}
 use native.Mathlib.Nat.{le-refl}
-use mathlib.Core.Bool.{true, _&&_}
+use mathlib.Core.Bool.{true}
 use mathlib.Core.List.{List}
-use lib.Dec.{leb}
 use lib.Ieee.{Float}
 use Rattle.float.specs.Ops.{f0}
 use Rattle.float.specs.Sign.{finiteOf}
@@ -21,7 +20,7 @@ use Rattle.solver_state.specs.declared.types.State.{State}
 use Rattle.solver_state.specs.State.{searchOf, leftOf, going}
 use Rattle.reader.specs.declared.types.Task.{Task}
 use Rattle.reader.specs.declared.types.Task.the-variants as Task
-use Rattle.reader.specs.View.{view}
+use Rattle.reader.specs.View.{ofData, view}
 use Rattle.records.specs.Outcome.{Course, refusedBy, searches, courseOf, refusedEnd, searchEnd, endOf, outcomeOf}
 use Rattle.records.specs.Record.{sealedBytes, sealedOf}
 use Rattle.records.specs.Span.{CourseWithin, search-within}
@@ -60,7 +59,7 @@ course-work maxdensity (Task.Spinodal t) = refl
 
 states-fit : (ev : Evaluator) (w : Work) (k : ℕ) → byData w ≡ true → stateFits (states ev w k) ≡ true
 unfolding states stateFits byData refusedState dataRefusal atEnd
-states-fit ev (Work.Refused number) k h = or-right (inRanges (refusedState number .numbers .counters)) (leb 11 number && leb number 16) h
+states-fit ev (Work.Refused number) k h = or-right (inRanges (refusedState number .numbers .counters)) (ofData number) h
 states-fit ev (Work.Search job) k h = or-left _ _ (path-fits job ev k)
 
 fits : (kind n : ℕ) (block : List ℕ) → Request kind n block → (turns : ℕ) → stateFits (stateAfter (view kind n block) turns) ≡ true

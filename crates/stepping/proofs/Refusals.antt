@@ -1,15 +1,14 @@
--- A request that submit accepts is refused by its data only, 11 to 16. Assumes nothing.
+-- A request that submit accepts is refused by its data only. Assumes nothing.
 use mathlib.Core.Path.{_≡_, refl}
 use Prim.Native.Nat.{ℕ}
-use mathlib.Core.Bool.{Bool, true, _&&_}
+use mathlib.Core.Bool.{Bool, true}
 use mathlib.Core.List.{List}
-use lib.Dec.{leb}
 use lib.Ieee.{Float}
 use Rattle.block.specs.declared.types.Conditions.{Conditions}
 use Rattle.reader.specs.declared.types.Job.{Job}
 use Rattle.reader.specs.declared.types.Task.{Task}
 use Rattle.block.specs.Numbers.{numbersOf}
-use Rattle.reader.specs.View.{taskOf, refused, view}
+use Rattle.reader.specs.View.{taskOf, refused, ofData, view}
 use Rattle.reader.proofs.ViewLaws.{OfData, request-keeps, task-keeps}
 use Rattle.stepping.specs.declared.types.Work.{Work}
 use Rattle.stepping.specs.declared.types.Work.the-variants as Work
@@ -18,7 +17,7 @@ use Rattle.stepping.specs.States.{Request}
 
 -- a search, or a refusal of the supplier's data
 unfoldable pub byData : Work → Bool
-byData (Work.Refused number) = leb 11 number && leb number 16
+byData (Work.Refused number) = ofData number
 byData (Work.Search job) = true
 
 module _ (maxdensity : Float) where

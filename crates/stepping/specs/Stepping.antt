@@ -1,7 +1,7 @@
 -- A job of a request block, one evaluation at a time: its first state, its step, the range of a stored state, and its end. Definitions only.
 use Prim.Native.Nat.{ℕ, _+_, _%_, _^_}
 use mathlib.Core.Bool.{Bool, cond, _&&_, _||_}
-use lib.Dec.{leb, eqb}
+use lib.Dec.{eqb}
 use lib.Ieee.{Float}
 use Rattle.float.specs.Ops.{f0}
 use Rattle.eos.specs.Cubic.{maxDensity}
@@ -16,6 +16,7 @@ use Rattle.solver_state.specs.State as Steps
 use Rattle.reader.specs.declared.types.Job.{Job}
 use Rattle.reader.specs.declared.types.Task.{Task}
 use Rattle.reader.specs.declared.types.Task.the-variants as Task
+use Rattle.reader.specs.View.{ofData}
 use Rattle.stepping.specs.declared.types.Work.{Work}
 use Rattle.stepping.specs.declared.types.Work.the-variants as Work
 use Rattle.stepping.specs.declared.types.Ended.{Ended}
@@ -70,9 +71,9 @@ stepOf job s = stepBy (evaluated (job .blend)) (workIn job) s
 unfoldable pub atEnd : Counters → Bool
 atEnd c = eqb (c .stage) 0 && eqb (c .tag) 0
 
--- the end of a job refused by its data, 11 to 16
+-- the end of a job refused by its data
 unfoldable pub dataRefusal : Counters → Bool
-dataRefusal c = atEnd c && (eqb (c .left) 0 && (eqb (c .way) 0 && (eqb (c .rounds) 0 && (leb 11 (c .status) && leb (c .status) 16))))
+dataRefusal c = atEnd c && (eqb (c .left) 0 && (eqb (c .way) 0 && (eqb (c .rounds) 0 && ofData (c .status))))
 
 -- the range of each counter: those of a search, or a data refusal's
 abbrev pub countersFit : Counters → Bool

@@ -9,6 +9,7 @@ use crate::types::Work;
 use eos::Blend;
 use reader::Job;
 use reader::Task;
+use reader::of_data;
 use solver::Counters;
 use solver::Numbers;
 use solver::Values;
@@ -203,10 +204,7 @@ fn data_refusal(counters: Counters) -> bool
     if counters.rounds != 0 {
         return false;
     }
-    if counters.status < 11 {
-        return false;
-    }
-    counters.status <= 16
+    of_data(counters.status)
 }
 
 // Whether stored counters are in their ranges: those of a search, or a data refusal's.
