@@ -89,7 +89,7 @@ fn edge(rng: &mut Rng) -> u64 {
         7,
         8,
         11,
-        16,
+        17,
         21,
         27,
         30,
@@ -241,7 +241,7 @@ fn damage_quarter(rng: &mut Rng, blocks: &Blocks, q: &mut [u8]) {
         13 => {
             // the end of a job refused by its data, right or nearly so
             q[COUNTERS..EVALUATIONS].fill(0);
-            put(q, COUNTERS + 16, 10 + rng.below(8) as u64);
+            put(q, COUNTERS + 16, 10 + rng.below(9) as u64);
             if rng.once_in(3) {
                 put(q, COUNTERS + 8 * rng.below(6), rng.below(3) as u64);
             }

@@ -4,3 +4,4 @@ pub mod ReadLaws
 pub mod InteractionLaws
 pub mod PairLaws
 pub mod SameBytes
+pub mod NearOne

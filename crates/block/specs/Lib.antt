@@ -4,3 +4,4 @@ pub mod Numbers
 pub mod Blend
 pub mod Checks
 pub mod SameBytes
+pub mod NearOne

@@ -94,7 +94,7 @@ pub record Demand1 : Type 0 where
   pub block-unread : (b : Bytes) (queue kind n : ℕ) (block block′ : Bytes) → length block ≡ length block′ → submitBoard b queue kind n block .answer ≡ submitBoard b queue kind n block′ .answer
   -- and all that is public of any call, a record's first 16 bytes too, is the same whatever the blocks brought and stored, and the searches, are
   pub data-unseen : (b b′ : Bytes) → SamePublic b b′ → (c c′ : Call Bytes) → mapCall length c ≡ mapCall length c′ → publicOf (replyBy (did b c)) ≡ publicOf (replyBy (did b′ c′))
-  -- every other request runs to an answer: a job that submit accepts, on any board, has sealed bytes with a status 0, 11 to 16 or 21 to 27 and at most its span's evaluations,
+  -- every other request runs to an answer: a job that submit accepts, on any board, has sealed bytes with a status 0, 11 to 17 or 21 to 27 and at most its span's evaluations,
   pub accepted-sealed : (b : Bytes) (queue kind n : ℕ) (block : Bytes) (ticket : ℕ) → submitBoard b queue kind n block .answer ≡ Ticket ticket → Sealed kind n block
   -- has reached them after its span's turns,
   pub accepted-ends : (b : Bytes) (queue kind n : ℕ) (block : Bytes) (ticket : ℕ) → submitBoard b queue kind n block .answer ≡ Ticket ticket

@@ -9,10 +9,11 @@ use Rattle.block.specs.Pairs.{pairsFit}
 use Rattle.block.specs.Numbers.{numbersOf}
 use Rattle.block.specs.SameBytes.{SameRead, SameBytes}
 use Rattle.block.proofs.SameBytes.{pairs-same, numbers-same}
+use Rattle.reader.specs.declared.types.Task.the-variants.{Refused}
 use Rattle.reader.specs.declared.types.Job.{Job}
 use Rattle.reader.specs.View.{check, lastChecks, checked, view}
 use Rattle.reader.specs.Alike.{Stage, both-refused, both-pass, SameConditions, SameData, SameNumbers, Alike}
-use Rattle.reader.proofs.ViewLaws.{readyJob}
+use Rattle.reader.proofs.ViewLaws.{readyJob, view-refused}
 
 -- ---- 1 implies 2
 
@@ -79,6 +80,10 @@ pub bytes-alike : (kind n : ℕ) (s t : List ℕ) → SameBytes kind n s t → A
 bytes-alike kind n s t a = numbers-alike kind n s t (bytes-numbers kind n s t a)
 
 -- ---- blocks that are alike though their bytes are not
+
+-- Blocks refused by the same number, whatever they hold: by 17, for one, with other fractions and other components.
+pub refused-alike : (kind n : ℕ) (s t : List ℕ) (number : ℕ) → Refused number ≡ view kind n s .task → Refused number ≡ view kind n t .task → Alike kind n s t
+refused-alike kind n s t number e f = sym (view-refused kind n s number e) ∙ view-refused kind n t number f
 
 -- Blocks whose pairs do not fit, whatever else they hold: "11 pairs" comes first.
 pub unfit-pairs : (kind n : ℕ) (s t : List ℕ) → length s ≡ 640 → length t ≡ 640 → pairsFit n s ≡ false → pairsFit n t ≡ false → SameNumbers kind n s t
