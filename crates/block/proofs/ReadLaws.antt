@@ -122,6 +122,16 @@ fractions-all count n s from i a b c m h =
 
 -- ---- the sum of the fractions
 
+-- what the two ways through the test say
+module _ (kind n : ℕ) (row : List Float) {r : Bool} where
+  pub sum-not-read : r ≡ readsFractions kind → r ≡ false → true ≡ sumFits kind n row
+  unfolding sumFits
+  sum-not-read e f = rw (← e, f)
+
+  pub sum-tested : {sum : Float} {t : Bool} → r ≡ readsFractions kind → r ≡ true → sum ≡ fractionSum n row → t ≡ nearOne sum → t ≡ sumFits kind n row
+  unfolding sumFits
+  sum-tested e f g h = rw (← e, f, ← g) h
+
 -- a row of eight has all that are added
 pub sum-row : (kind n : ℕ) (row : List Float) → 1 ≤ n → n ≤ 8 → sumFits kind n (tabulate 8 (λ i. at row i)) ≡ sumFits kind n row
 unfolding sumFits fractionSum
