@@ -1,4 +1,4 @@
-//! The oracle: what document 01 says the Rust would answer, over the standard library alone.
+//! The oracle: what the documents say the Rust would answer, over the standard library alone.
 //! `run_request` answers a request; the five evaluations and the jets are public for vectors and benchmarks.
 
 pub mod block;

@@ -13,7 +13,7 @@ use lib.Ieee.{Float, nan, inf, fin, Format, binary64, prec, emax, low, up, down,
 use lib.Ieee.Fits.{and-l, and-r, down-pos, add-fits, cond-fits}
 use lib.Ieee.Order.{round-mono}
 use lib.Ieee.Positive.{positive, between, le-trans-positive}
-use borrow.Author.Tests.{leb-true, leb-false, le-leb, lt-leb, ltb-true, ltb-false}
+use borrow.Author.Tests.{leb-true, leb-false, ltb-true, ltb-false}
 use lib.Ieee.Bits.{ofBits-fits}
 use Rattle.float.specs.Ops.{_⊕_, f0, f1}
 use Rattle.float.specs.Sign.{absOf}
@@ -89,7 +89,7 @@ beyond a c p h t =
 
 -- ---- a sum that differs from 1 by more than 10^−9 differs by 9,007,200·2^−53 or more
 
--- a sum from 1/2 on, c = 2^k, is a multiple of 2^−53
+-- a fraction whose denominator c divides 2^53 is a multiple of 2^−53
 of-steps : (a c t : ℕ) → 0 < t → c * t ≡ 2 ^ 53 → c < a * 10 ^ 9 → 9007200 * c ≤ a * 2 ^ 53
 of-steps a c t p e h =
     let g = mul-lt-mul-of-pos-right h p in

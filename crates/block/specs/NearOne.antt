@@ -1,5 +1,5 @@
--- What 17 says of exact numbers: of every request, that the sum of the fractions it reads, added in floats, differs from 1 by at most 10^−9, with nothing rounded in the comparison.
--- Statement only; `sums-exact` in proofs/NearOne.antt proves it.
+-- The check of 17 in exact numbers: where a kind reads fractions, their sum, added in floats, passes if and only if it differs from 1 by at most 10^−9, with nothing
+-- rounded in the comparison. Statement only; `sums-exact` in proofs/NearOne.antt proves it of every request.
 use mathlib.Core.Path.{_≡_}
 use Prim.Native.Nat.{ℕ, _+_, _-_, _*_, _^_}
 use mathlib.Core.Bool.{Bool, true, false, not, _||_}

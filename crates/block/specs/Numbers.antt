@@ -1,4 +1,5 @@
--- Which numbers of a request block a job reads. What it does not read stands as 0 or +0, which every check lets pass. Definitions only.
+-- Which numbers of a request block a job reads. What it does not read stands as 0 or +0, which the checks let pass; the sum's asks the kind, since zeros do not add
+-- up to 1. Definitions only.
 use Prim.Native.Nat.{ℕ, _+_, _-_, _*_, _/_}
 use mathlib.Core.Bool.{Bool, cond, not, _||_}
 use mathlib.Core.List.{List}

@@ -43,14 +43,14 @@ pub record JetCases : Type 0 where
   pub root-of-1-plus-e0 : rootOf one-plus-e0 ≡ in-e0 f1 (twoTo (negsuc 0)) (neg (twoTo (negsuc 2))) (twoTo (negsuc 3))
   pub ln-of-1-plus-e0 : logarithmOf one-plus-e0 ≡ in-e0 f0 f1 (neg (twoTo (negsuc 0))) (ofBits binary64 0x3FD5555555555555)
 
--- the floats next to 1, on either side, that are the last within 1e-9 of it
+-- the greatest and the least float within 1e-9 of 1
 abbrev pub last-above : Float
 last-above = ofBits binary64 0x3FF0_0000_0044_B82F
 
 abbrev pub last-below : Float
 last-below = ofBits binary64 0x3FEF_FFFF_FF76_8FA1
 
--- 3·2^−55: one is lost in a sum near 1, two together are not
+-- 3·2^−55: one is lost in a sum of 1 or a little more, two together are not
 abbrev pub speck : Float
 speck = fin false 3 (negsuc 54)
 

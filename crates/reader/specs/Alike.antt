@@ -14,10 +14,10 @@ use Rattle.block.specs.Blend.{blendOf}
 use Rattle.block.specs.Checks.{componentsFit, interactionsFit, fractionsFit, sumFits, conditionsFit}
 use Rattle.reader.specs.View.{runFits, view}
 
--- ---- 2. by the numbers, check after check in document 01's order
+-- ---- 2. by the numbers, check after check in their order
 
--- A check of two blocks. Both are refused by it: what it is told from may differ, and nothing after it is read. Or both pass it: what it is told from is the
--- same, and they go on to the next.
+-- A check of two blocks. Both are refused by it: what it is told from may differ, and nothing after it is read. Or both pass it: `Same` holds of what it is
+-- told from, and they go on to the next.
 pub data Stage {A : Type 0} (fits : A → Bool) (a b : A) (Same Next : Type 0) : Type 0 where
   both-refused : fits a ≡ false → fits b ≡ false → Stage fits a b Same Next
   both-pass : fits a ≡ true → fits b ≡ true → Same → Next → Stage fits a b Same Next

@@ -1,4 +1,4 @@
--- What a job reads of a request, or the refusal, with its checks in document 01's order. Definitions only.
+-- What a job reads of a request, or the refusal, with its checks in their order. Definitions only.
 use Prim.Native.Nat.{ℕ}
 use mathlib.Core.Bool.{Bool, cond, _&&_}
 use mathlib.Core.List.{List}
