@@ -1,22 +1,18 @@
 //! Whole jobs, from the block's bytes to the record's: `records::answer` against the oracle's `run_request`, for each kind
 //! and N = 1, 2, 8. Both sides write the record's sealed bytes.
+use crate::proved;
 use crate::requests::{self, Job};
 use crate::timing::compare;
 use oracle::board::RECORD;
-use oracle::{float, run_request, Answer, BLOCK};
+use oracle::{float, run_request, Answer};
 use std::hint::black_box;
-
-extern "C" {
-    // a slice is a pointer and a length
-    fn pr_answer(kind: u64, n: u64, block: *const u8, block_len: usize, record: *mut u8, record_len: usize) -> u64;
-}
 
 const SEALED: usize = 16;
 
 impl Job {
     fn ours(&self, record: &mut [u8; RECORD]) -> u64 {
         let (kind, n) = (u64::from(self.kind), u64::from(self.n));
-        unsafe { pr_answer(kind, n, self.block.as_ptr(), BLOCK, record.as_mut_ptr(), RECORD) }
+        proved::answer(kind, n, &self.block, record)
     }
 
     fn theirs(&self, record: &mut [u8; RECORD]) -> u64 {

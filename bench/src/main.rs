@@ -13,18 +13,19 @@ mod proved;
 mod requests;
 mod timing;
 mod turns;
+mod writes;
 
 use std::process::ExitCode;
 
 const USAGE: &str = "\
-usage: bench [floats] [jets] [evaluations] [jobs] [turns]      without a name, all
+usage: bench [floats] [jets] [evaluations] [writes] [jobs] [turns]      without a name, all
        bench bits COUNT SEED";
 
-const TABLES: [&str; 5] = ["floats", "jets", "evaluations", "jobs", "turns"];
+const TABLES: [&str; 6] = ["floats", "jets", "evaluations", "writes", "jobs", "turns"];
 
 fn measure(wanted: impl Fn(&str) -> bool) {
-    let layers: [(&str, fn() -> Vec<timing::Row>); 3] =
-        [("floats", floats::rows), ("jets", jets::rows), ("evaluations", evaluations::rows)];
+    let layers: [(&str, fn() -> Vec<timing::Row>); 4] =
+        [("floats", floats::rows), ("jets", jets::rows), ("evaluations", evaluations::rows), ("writes", writes::rows)];
     if layers.iter().any(|(name, _)| wanted(name)) {
         println!("{:<34} {:>7} {:>10} {:>10}   against", "what", "ratio", "ours/ns", "theirs/ns");
     }

@@ -1,6 +1,7 @@
 //! The requests that jobs and turns are measured on: eight of each kind for N = 1, 2, 8, on one bottle.
-use oracle::block::lengths;
+use crate::proved;
 use oracle::random::FLUIDS;
+use oracle::writer::Filing;
 use oracle::{PengRobinson, PengRobinsonRecord, BLOCK};
 
 /// What is in the bottle: the first N of these, by parts.
@@ -43,22 +44,18 @@ impl Bottle {
         Bottle { records, interactions, fractions, tc, max_density }
     }
 
-    /// The parts one after the other from byte 16, as the oracle's generator packs them.
-    fn block(&self, choice: u64, conditions: [f64; 3]) -> [u8; BLOCK] {
-        let floats = self.records.iter().flat_map(|r| [r.tc, r.pc, r.acentric_factor]);
-        let floats = floats.chain(self.interactions.iter().copied()).chain(self.fractions.iter().copied());
-        let words = floats.map(f64::to_bits).chain([choice]).chain(conditions.map(f64::to_bits));
-        let mut block = [0; BLOCK];
-        let mut at = 16;
-        for (i, length) in lengths(self.records.len()).into_iter().enumerate() {
-            block[4 * i..4 * i + 2].copy_from_slice(&(at as u16).to_le_bytes());
-            block[4 * i + 2..4 * i + 4].copy_from_slice(&(length as u16).to_le_bytes());
-            at += length;
+    fn filing(&self, kind: u8, choice: u64, [temperature, pressure, start]: [f64; 3]) -> Filing {
+        Filing {
+            kind: kind.into(),
+            n: self.records.len() as u64,
+            coefficients: self.records.iter().flat_map(|r| [r.tc, r.pc, r.acentric_factor]).collect(),
+            interactions: self.interactions.clone(),
+            fractions: self.fractions.clone(),
+            choice,
+            temperature,
+            pressure,
+            start,
         }
-        for (i, word) in words.enumerate() {
-            block[16 + 8 * i..24 + 8 * i].copy_from_slice(&word.to_le_bytes());
-        }
-        block
     }
 }
 
@@ -68,28 +65,38 @@ pub struct Job {
     pub block: [u8; BLOCK],
 }
 
-/// Eight jobs of a kind, from cold and nearly empty to warm and full.
-pub fn jobs(kind: u8, n: usize) -> Vec<Job> {
+/// The numbers of eight jobs of a kind, from cold and nearly empty to warm and full.
+pub fn filings(kind: u8, n: usize) -> Vec<Filing> {
     let bottle = Bottle::new(n);
-    let job = |i: usize| {
+    let filing = |i: usize| {
         let warmth = 0.65 + 0.04 * i as f64;
         let t = bottle.tc * warmth;
         let p = BAR * [1.0, 2.0, 4.0, 6.0, 8.0, 10.0, 15.0, 20.0][i];
         let start = bottle.max_density * (0.1 + 0.1 * i as f64);
         let component = i % n;
-        let block = match kind {
+        let (choice, conditions) = match kind {
             // vapour, liquid, from a start
-            1 => bottle.block(i as u64 % 3, [t, p, start]),
-            2 => bottle.block(0, [t, p, 0.0]),
-            3 => bottle.block(0, [t, 0.0, start]),
-            4 => bottle.block(i as u64 % 2, [t, 0.0, 0.0]),
+            1 => (i % 3, [t, p, start]),
+            2 => (0, [t, p, 0.0]),
+            3 => (0, [t, 0.0, start]),
+            4 => (i % 2, [t, 0.0, 0.0]),
             // from no temperature and from one near the answer
-            5 => bottle.block(component as u64, [[0.0, 1.05 * bottle.records[component].tc][i % 2], 0.0, 0.0]),
-            _ => bottle.block(component as u64, [bottle.records[component].tc * warmth, 0.0, 0.0]),
+            5 => (component, [[0.0, 1.05 * bottle.records[component].tc][i % 2], 0.0, 0.0]),
+            _ => (component, [bottle.records[component].tc * warmth, 0.0, 0.0]),
         };
+        bottle.filing(kind, choice as u64, conditions)
+    };
+    (0..8).map(filing).collect()
+}
+
+/// Their blocks, by the proved writer.
+pub fn jobs(kind: u8, n: usize) -> Vec<Job> {
+    let job = |filing: &Filing| {
+        let mut block = [0; BLOCK];
+        assert!(proved::write_block(filing, &mut block) == 0, "kind {kind}, N = {n}: not written");
         Job { kind, n: n as u8, block }
     };
-    (0..8).map(job).collect()
+    filings(kind, n).iter().map(job).collect()
 }
 
 /// Kind and N of each row.

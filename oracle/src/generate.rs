@@ -45,6 +45,11 @@ pub struct Scale {
 }
 
 impl Scale {
+    pub const ONE: Scale = Scale {
+        temperature: 1.0,
+        density: 1.0,
+    };
+
     fn random(rng: &mut Rng) -> Self {
         if rng.once_in(5) {
             Scale {
@@ -52,10 +57,7 @@ impl Scale {
                 density: rng.log_between(1e-6, 1e15),
             }
         } else {
-            Scale {
-                temperature: 1.0,
-                density: 1.0,
-            }
+            Scale::ONE
         }
     }
 
@@ -417,7 +419,7 @@ fn bad(rng: &mut Rng) -> f64 {
 }
 
 /// Puts a fault for the refusal into the draft; 11 is put into the bytes.
-fn damage(rng: &mut Rng, draft: &mut Draft, refusal: u8) {
+pub fn damage(rng: &mut Rng, draft: &mut Draft, refusal: u8) {
     let i = rng.below(draft.n);
     match refusal {
         12 => {

@@ -1,5 +1,6 @@
 //! The oracle as a program: answers requests, and makes and answers test input. README.md lists the subcommands.
 
+use oracle::filings::{filings, FilingCensus};
 use oracle::float::bits;
 use oracle::generate::requests;
 use oracle::show::{select, show, Census};
@@ -18,6 +19,7 @@ usage: oracle                          answer one request on standard input
        oracle --generate SEED COUNT    requests in bytes
        oracle --census SEED COUNT      the same requests, counted by kind and status
        oracle --select SEED COUNT EACH of those requests, EACH of every kind and status, and the longest
+       oracle --filings SEED COUNT     filings for the writer, counted by kind and answer
        oracle --jets SEED COUNT        jet operations with results, in words
        oracle --jets-bin SEED COUNT    the same operations in bytes
        oracle --jets-run               results of jet operations in bytes
@@ -167,6 +169,13 @@ fn run(arguments: &[String]) -> io::Result<bool> {
                     let mut census = Census::default();
                     for (place, request) in requests(seed, count).enumerate() {
                         census.count(place as u64, &request);
+                    }
+                    write!(out, "{census}")?;
+                }
+                "--filings" => {
+                    let mut census = FilingCensus::default();
+                    for (filing, mut buffer) in filings(seed, count) {
+                        census.count(&filing, &mut buffer);
                     }
                     write!(out, "{census}")?;
                 }

@@ -1,4 +1,4 @@
-//! The proved board run beside the oracle's, on random requests, call lists and damaged boards. docs/TRIALS.md has the counts.
+//! The proved board and writer run beside the oracle's, on random requests, call lists, damaged boards and filings. docs/TRIALS.md has the counts.
 //! Stops at the first difference, with exit status 1.
 
 mod blocks;
@@ -8,15 +8,17 @@ mod proved;
 mod report;
 mod requests;
 mod schedule;
+mod writes;
 
 use report::{Difference, Options, Progress, Tally};
 use std::process::ExitCode;
 
 const USAGE: &str = "\
-usage: trials requests|pairs|damaged [--count N] [--seed S] [--first I]
+usage: trials requests|pairs|damaged|writes [--count N] [--seed S] [--first I]
   requests   the oracle's requests through the proved board, against its whole answers
   pairs      pairs of call lists that differ in blocks only: public answers, and everything against the oracle's board
   damaged    boards with damage: every call of the proved board against the oracle's
+  writes     filings through the proved writer, against the oracle's; each block read back; requests read and written again
   --first    the item to begin with, so that one that failed is repeated with --count 1";
 
 type Trial = fn(Options, &mut Tally, &mut Progress) -> Result<(), Difference>;
@@ -27,6 +29,7 @@ fn parse(words: &[String]) -> Option<(&str, Trial, Options)> {
         "requests" => (requests::run, 20_000),
         "pairs" => (pairs::run, 100_000),
         "damaged" => (damaged::run, 1_000_000),
+        "writes" => (writes::run, 100_000),
         _ => return None,
     };
     let mut options = Options {

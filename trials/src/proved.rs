@@ -1,7 +1,8 @@
-//! The proved calls, linked from `target/staticlib/libexports.a`, with their answers in the oracle's form.
+//! The proved calls and the proved writer, linked from `target/staticlib/libexports.a`, with their answers in the oracle's form.
 
 use oracle::board::Answer;
 use oracle::float;
+use oracle::writer::Filing;
 
 extern "C" {
     // a slice is a pointer and a length
@@ -22,6 +23,30 @@ extern "C" {
         queue: u64,
         evaluations: *mut u64,
         density: *mut f64,
+    ) -> u64;
+    fn pr_answer(
+        kind: u64,
+        n: u64,
+        block: *const u8,
+        block_len: usize,
+        record: *mut u8,
+        record_len: usize,
+    ) -> u64;
+    fn pr_write_block(
+        kind: u64,
+        n: u64,
+        coefficients: *const f64,
+        coefficients_len: usize,
+        interactions: *const f64,
+        interactions_len: usize,
+        fractions: *const f64,
+        fractions_len: usize,
+        choice: u64,
+        temperature: f64,
+        pressure: f64,
+        start: f64,
+        block: *mut u8,
+        block_len: usize,
     ) -> u64;
 }
 
@@ -85,5 +110,41 @@ pub fn look(board: &[u8], queue: u64) -> Answer {
             density: float::bits(density),
         },
         number => refused(number, evaluations == BEFORE && density.to_bits() == BEFORE),
+    }
+}
+
+/// A whole job without a board: 0 where the record's sealed bytes were written, else the refusal.
+pub fn answer(kind: u64, n: u64, block: &[u8], record: &mut [u8]) -> u64 {
+    unsafe {
+        pr_answer(
+            kind,
+            n,
+            block.as_ptr(),
+            block.len(),
+            record.as_mut_ptr(),
+            record.len(),
+        )
+    }
+}
+
+/// 0 where the block was written, else the refusal.
+pub fn write_block(filing: &Filing, block: &mut [u8]) -> u64 {
+    unsafe {
+        pr_write_block(
+            filing.kind,
+            filing.n,
+            filing.coefficients.as_ptr(),
+            filing.coefficients.len(),
+            filing.interactions.as_ptr(),
+            filing.interactions.len(),
+            filing.fractions.as_ptr(),
+            filing.fractions.len(),
+            filing.choice,
+            filing.temperature,
+            filing.pressure,
+            filing.start,
+            block.as_mut_ptr(),
+            block.len(),
+        )
     }
 }

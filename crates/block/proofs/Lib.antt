@@ -3,5 +3,6 @@ pub mod Sizes
 pub mod ReadLaws
 pub mod InteractionLaws
 pub mod PairLaws
+pub mod NumberLaws
 pub mod SameBytes
 pub mod NearOne

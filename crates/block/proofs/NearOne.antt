@@ -19,10 +19,11 @@ use Rattle.float.specs.Ops.{_⊕_, f0, f1}
 use Rattle.float.specs.Sign.{absOf}
 use Rattle.eos.specs.Indices.{foldFrom, total}
 use Rattle.block.specs.Pairs.{offsetOf, fractions}
-use Rattle.block.specs.Numbers.{floatsAt, readsFractions, fractionCount, numbersOf}
+use Rattle.block.specs.Numbers.{floatsAt, readsFractions, fractionCount}
 use Rattle.block.specs.Blend.{at}
 use Rattle.block.specs.Checks.{d1e-9, fractionSum, nearOne, sumFits}
 use Rattle.block.proofs.Lists.{getD-tabulate}
+use Rattle.block.proofs.NumberLaws.{numbers-rows}
 use Rattle.block.specs.NearOne.{fromOne, withinBillionth, SumsExact}
 
 -- ---- the size of a difference is the difference rounded without its sign
@@ -159,7 +160,8 @@ first-fits count s from =
     (cond-fits binary64 (ltb 0 count) _ f0 (ofBits-fits binary64 _) (ofBits-fits binary64 0))
 
 pub sums-exact : SumsExact
-unfolding sumFits fractionSum total numbersOf
+unfolding sumFits fractionSum total
 sums-exact kind n block =
     let row = floatsAt (fractionCount kind n) block (offsetOf block fractions) in
-    ap (λ (b : Bool). not (readsFractions kind) || b) (near-one-exact _ (fold-fits (λ i. at row i) (n - 1) 1 (at row 0) (first-fits (fractionCount kind n) block (offsetOf block fractions))))
+    rw (numbers-rows kind n block)
+    (ap (λ (b : Bool). not (readsFractions kind) || b) (near-one-exact _ (fold-fits (λ i. at row i) (n - 1) 1 (at row 0) (first-fits (fractionCount kind n) block (offsetOf block fractions)))))

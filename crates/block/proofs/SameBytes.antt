@@ -11,9 +11,10 @@ use Rattle.float.specs.Ops.{f0}
 use Rattle.buf.specs.Bytes.{part, numAt, u64At, f64At}
 use Rattle.buf.proofs.Laws.{numAt-part}
 use Rattle.block.specs.Pairs.{offsetOf, lengthOf, coefficients, interactions, fractions, conditions, lengthsFit, offsetsFit, pairsFit}
-use Rattle.block.specs.Numbers.{floatsAt, readsFractions, fractionCount, usesChoice, usesPressure, usesStart, choiceOf, pressureOf, startOf, conditionsOf, numbersOf}
+use Rattle.block.specs.Numbers.{floatsAt, readsFractions, fractionCount, usesChoice, usesPressure, usesStart, usedChoice, usedPressure, usedStart, used, conditionsAt, conditionsOf, numbersOf}
 use Rattle.block.specs.SameBytes.{SameRead}
 use Rattle.block.proofs.Lists.{tabulate-same}
+use Rattle.block.proofs.NumberLaws.{cond-same, numbers-rows}
 
 -- ---- numbers in bytes that are the same, in one block at index at and in the other at index to
 
@@ -32,11 +33,6 @@ first-same s at t to e =
 
 f64-same : (s : List ℕ) (at : ℕ) (t : List ℕ) (to : ℕ) → Same s at t to 8 → f64At s at ≡ f64At t to
 f64-same s at t to e = ap (ofBits binary64) (first-same s at t to e)
-
--- where a test holds, the same; else one value
-cond-same : {A : Type 0} (b : Bool) (x y d : A) → (b ≡ true → x ≡ y) → cond b x d ≡ cond b y d
-cond-same true x y d h = h refl
-cond-same false x y d h = refl
 
 floats-same : (s : List ℕ) (at : ℕ) (t : List ℕ) (to count bytes : ℕ) → Same s at t to bytes → 8 * count ≤ bytes → floatsAt count s at ≡ floatsAt count t to
 unfolding floatsAt
@@ -82,21 +78,22 @@ fraction-bytes kind n s at t to h = go (readsFractions kind) h
     go false h = floats-same s at t to 0 0 (unfold part in refl) (omega arith)
 
 conditions-same : (kind : ℕ) (s : List ℕ) (at : ℕ) (t : List ℕ) (to : ℕ) → (usesChoice kind ≡ true → Same s at t to 8) → Same s (at + 8) t (to + 8) 8
-    → (usesPressure kind ≡ true → Same s (at + 16) t (to + 16) 8) → (usesStart kind (choiceOf kind s at) ≡ true → Same s (at + 24) t (to + 24) 8)
+    → (usesPressure kind ≡ true → Same s (at + 16) t (to + 16) 8) → (usesStart kind (usedChoice kind (u64At s at)) ≡ true → Same s (at + 24) t (to + 24) 8)
     → conditionsOf kind s at ≡ conditionsOf kind t to
-unfolding conditionsOf choiceOf pressureOf startOf
+unfolding conditionsOf conditionsAt used usedChoice usedPressure usedStart
 conditions-same kind s at t to c temperature p start =
     let ec = cond-same (usesChoice kind) (u64At s at) (u64At t to) 0 (λ q. first-same s at t to (c q)) in
     let et = f64-same s (at + 8) t (to + 8) temperature in
     let ep = cond-same (usesPressure kind) (f64At s (at + 16)) (f64At t (to + 16)) f0 (λ q. f64-same s (at + 16) t (to + 16) (p q)) in
-    let es = cond-same (usesStart kind (choiceOf kind s at)) (f64At s (at + 24)) (f64At t (to + 24)) f0 (λ q. f64-same s (at + 24) t (to + 24) (start q)) in
+    let es = cond-same (usesStart kind (usedChoice kind (u64At s at))) (f64At s (at + 24)) (f64At t (to + 24)) f0 (λ q. f64-same s (at + 24) t (to + 24) (start q)) in
     rw (es, et, ep, ec)
 
 pub numbers-same : (kind n : ℕ) (s t : List ℕ) → SameRead kind n s t → numbersOf kind n s ≡ numbersOf kind n t
-unfolding numbersOf
 numbers-same kind n s t r =
     let none : (k : ℕ) → k + 0 ≡ k = λ k. omega arith in
     rw (
+      numbers-rows kind n s,
+      numbers-rows kind n t,
       floats-same s (offsetOf s coefficients) t (offsetOf t coefficients) (3 * n) (24 * n) (simp none at (r .in-coefficients)) (omega arith),
       floats-same s (offsetOf s interactions) t (offsetOf t interactions) (n * (n - 1) / 2) (4 * (n * (n - 1))) (simp none at (r .in-interactions)) (omega arith),
       fraction-bytes kind n s (offsetOf s fractions) t (offsetOf t fractions) (λ q. simp none at (r .in-fractions q)),

@@ -1,20 +1,17 @@
--- Which numbers of a request block a job reads. What it does not read stands as 0 or +0, which the checks let pass; the sum's asks the kind, since zeros do not add
--- up to 1. Definitions only.
+-- The numbers in the parts of a request block, and which of them a job reads. What it does not read stands as 0 or +0, which the checks let pass; the sum's asks the
+-- kind, since zeros do not add up to 1. Definitions only.
 use Prim.Native.Nat.{ℕ, _+_, _-_, _*_, _/_}
 use mathlib.Core.Bool.{Bool, cond, not, _||_}
 use mathlib.Core.List.{List}
 use lib.Dec.{leb, ltb, eqb}
-use lib.Ieee.{Float}
+use lib.ListN.{getD}
+use lib.Ieee.{Float, nan}
 use Rattle.float.specs.Ops.{f0}
 use Rattle.buf.specs.Bytes.{u64At, f64At}
 use Rattle.block.specs.Lists.{tabulate}
 use Rattle.block.specs.Pairs.{offsetOf, coefficients, interactions, fractions, conditions}
 use Rattle.block.specs.declared.types.Conditions.{Conditions}
 use Rattle.block.specs.declared.types.Numbers.{Numbers}
-
--- a row of 28: the count floats from index at, then +0
-unfoldable pub floatsAt : ℕ → List ℕ → ℕ → List Float
-floatsAt count s at = tabulate 28 (λ i. cond (ltb i count) (f64At s (at + 8 * i)) f0)
 
 -- "critical temperature, critical pressure, acentric factor" of each component
 abbrev pub coefficientCount : ℕ → ℕ
@@ -23,6 +20,27 @@ coefficientCount n = 3 * n
 -- "k_ij by rows, i below j"
 abbrev pub interactionCount : ℕ → ℕ
 interactionCount n = n * (n - 1) / 2
+
+-- ---- what stands in the parts of a block
+
+-- the count floats from index at
+unfoldable pub listAt : ℕ → List ℕ → ℕ → List Float
+listAt count s at = tabulate count (λ i. f64At s (at + 8 * i))
+
+-- "conditions (32: choice u64, temperature, pressure, start)" from index at
+unfoldable pub conditionsAt : List ℕ → ℕ → Conditions
+conditionsAt s at = record { choice = u64At s at; temperature = f64At s (at + 8); pressure = f64At s (at + 16); start = f64At s (at + 24) }
+
+-- every number, read or not
+unfoldable pub filedIn : (n : ℕ) → List ℕ → Numbers
+filedIn n s = record {
+  coefficients = listAt (coefficientCount n) s (offsetOf s coefficients);
+  interactions = listAt (interactionCount n) s (offsetOf s interactions);
+  fractions = listAt n s (offsetOf s fractions);
+  conditions = conditionsAt s (offsetOf s conditions);
+}
+
+-- ---- what a kind reads of the numbers
 
 -- "Kinds 5 and 6 read no fractions": they search one component, the others the whole blend
 unfoldable pub readsFractions : (kind : ℕ) → Bool
@@ -47,28 +65,44 @@ usesPressure kind = leb kind 2
 unfoldable pub usesStart : (kind choice : ℕ) → Bool
 usesStart kind choice = cond (eqb kind 1) (eqb choice 2) (eqb kind 3 || zeroIsNone kind)
 
-unfoldable pub choiceOf : (kind : ℕ) → List ℕ → ℕ → ℕ
-choiceOf kind s at = cond (usesChoice kind) (u64At s at) 0
+-- "Unused conditions .. are ignored"
+unfoldable pub usedChoice : (kind choice : ℕ) → ℕ
+usedChoice kind choice = cond (usesChoice kind) choice 0
 
-unfoldable pub pressureOf : (kind : ℕ) → List ℕ → ℕ → Float
-pressureOf kind s at = cond (usesPressure kind) (f64At s (at + 16)) f0
+unfoldable pub usedPressure : (kind : ℕ) → Float → Float
+usedPressure kind pressure = cond (usesPressure kind) pressure f0
 
-unfoldable pub startOf : (kind choice : ℕ) → List ℕ → ℕ → Float
-startOf kind choice s at = cond (usesStart kind choice) (f64At s (at + 24)) f0
+unfoldable pub usedStart : (kind choice : ℕ) → Float → Float
+usedStart kind choice start = cond (usesStart kind choice) start f0
 
--- "conditions (32: choice u64, temperature, pressure, start)" from index at. "Unused conditions .. are ignored"
-unfoldable pub conditionsOf : (kind : ℕ) → List ℕ → ℕ → Conditions
-conditionsOf kind s at = record {
-  choice = choiceOf kind s at;
-  temperature = f64At s (at + 8);
-  pressure = pressureOf kind s at;
-  start = startOf kind (choiceOf kind s at) s at;
+unfoldable pub used : (kind : ℕ) → Conditions → Conditions
+used kind c = record {
+  choice = usedChoice kind (c .choice);
+  temperature = c .temperature;
+  pressure = usedPressure kind (c .pressure);
+  start = usedStart kind (usedChoice kind (c .choice)) (c .start);
 }
 
+-- a row of 28: the first count numbers of a list, then +0
+unfoldable pub firstOf : ℕ → List Float → List Float
+firstOf count l = tabulate 28 (λ i. cond (ltb i count) (getD l i nan) f0)
+
+unfoldable pub asRead : (kind n : ℕ) → Numbers → Numbers
+asRead kind n d = record {
+  coefficients = firstOf (coefficientCount n) (d .coefficients);
+  interactions = firstOf (interactionCount n) (d .interactions);
+  fractions = firstOf (fractionCount kind n) (d .fractions);
+  conditions = used kind (d .conditions);
+}
+
+-- what a job reads of a block
 unfoldable pub numbersOf : (kind n : ℕ) → List ℕ → Numbers
-numbersOf kind n s = record {
-  coefficients = floatsAt (coefficientCount n) s (offsetOf s coefficients);
-  interactions = floatsAt (interactionCount n) s (offsetOf s interactions);
-  fractions = floatsAt (fractionCount kind n) s (offsetOf s fractions);
-  conditions = conditionsOf kind s (offsetOf s conditions);
-}
+numbersOf kind n s = asRead kind n (filedIn n s)
+
+-- ---- the same of one part, which begins at index at
+
+unfoldable pub floatsAt : ℕ → List ℕ → ℕ → List Float
+floatsAt count s at = tabulate 28 (λ i. cond (ltb i count) (f64At s (at + 8 * i)) f0)
+
+unfoldable pub conditionsOf : (kind : ℕ) → List ℕ → ℕ → Conditions
+conditionsOf kind s at = used kind (conditionsAt s at)

@@ -28,12 +28,24 @@ fractions = 2
 abbrev pub conditions : ℕ
 conditions = 3
 
--- "coefficients (24N ..), interactions (4N(N−1) ..), fractions (8N), conditions (32 ..)"
+-- their lengths: "coefficients (24N ..), interactions (4N(N−1) ..), fractions (8N), conditions (32 ..)"
+abbrev pub coefficientsLength : ℕ → ℕ
+coefficientsLength n = 24 * n
+
+abbrev pub interactionsLength : ℕ → ℕ
+interactionsLength n = 4 * (n * (n - 1))
+
+abbrev pub fractionsLength : ℕ → ℕ
+fractionsLength n = 8 * n
+
+abbrev pub conditionsLength : ℕ
+conditionsLength = 32
+
 unfoldable pub lengthsFit : ℕ → List ℕ → Bool
 lengthsFit n s =
-    eqb (lengthOf s coefficients) (24 * n)
-    && (eqb (lengthOf s interactions) (4 * (n * (n - 1)))
-    && (eqb (lengthOf s fractions) (8 * n) && eqb (lengthOf s conditions) 32))
+    eqb (lengthOf s coefficients) (coefficientsLength n)
+    && (eqb (lengthOf s interactions) (interactionsLength n)
+    && (eqb (lengthOf s fractions) (fractionsLength n) && eqb (lengthOf s conditions) conditionsLength))
 
 -- "Offsets begin at 16 or later, and none precedes the end of the pair before; the last end is at most 640"
 unfoldable pub offsetsFit : List ℕ → Bool

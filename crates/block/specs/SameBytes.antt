@@ -4,9 +4,9 @@ use Prim.Native.Nat.{ℕ, _+_, _-_, _*_}
 use mathlib.Core.Bool.{true}
 use mathlib.Core.List.{List}
 use lib.ListN.{length}
-use Rattle.buf.specs.Bytes.{part}
+use Rattle.buf.specs.Bytes.{part, u64At}
 use Rattle.block.specs.Pairs.{offsetOf, coefficients, interactions, fractions, conditions, pairsFit}
-use Rattle.block.specs.Numbers.{readsFractions, usesChoice, usesPressure, usesStart, choiceOf}
+use Rattle.block.specs.Numbers.{readsFractions, usesChoice, usesPressure, usesStart, usedChoice}
 
 -- the count bytes from the skip-th of part i are the same, wherever the part begins
 abbrev pub SamePart : (s t : List ℕ) (i skip count : ℕ) → Type 0
@@ -21,7 +21,7 @@ pub record SameRead (kind n : ℕ) (s t : List ℕ) : Type 0 where
   pub in-choice : usesChoice kind ≡ true → SamePart s t conditions 0 8
   pub in-temperature : SamePart s t conditions 8 8
   pub in-pressure : usesPressure kind ≡ true → SamePart s t conditions 16 8
-  pub in-start : usesStart kind (choiceOf kind s (offsetOf s conditions)) ≡ true → SamePart s t conditions 24 8
+  pub in-start : usesStart kind (usedChoice kind (u64At s (offsetOf s conditions))) ≡ true → SamePart s t conditions 24 8
 
 -- Nothing beyond the pairs is read where these are refused.
 pub record SameBytes (kind n : ℕ) (s t : List ℕ) : Type 0 where

@@ -2,7 +2,8 @@
 ghost use mathlib.Core.Path.{_≡_};
 ghost use Prim.Native.Nat.{_+_, _≤_};
 ghost use lib.ListN.{length};
-ghost use Rattle.block.specs.Numbers.{readsFractions, fractionCount, zeroIsNone, usesChoice, usesStart, choiceOf, pressureOf, startOf, conditionsOf};
+ghost use Rattle.buf.specs.Bytes.{u64At, f64At};
+ghost use Rattle.block.specs.Numbers.{readsFractions, fractionCount, zeroIsNone, usesChoice, usesStart, usedChoice, usedPressure, usedStart, conditionsOf};
 use crate::types::Conditions;
 
 pub fn reads_fractions(kind: u64) -> bool
@@ -52,7 +53,7 @@ fn uses_start(kind: u64, choice: u64) -> bool
 
 fn choice(kind: u64, block: &[u8], at: usize) -> u64
     requires { ⌜ at + 32 ≤ length (now block) ⌝ }
-    ensures { λ r. ⌜ r ≡ choiceOf kind (now (block .entry)) at ⌝ }
+    ensures { λ r. ⌜ r ≡ usedChoice kind (u64At (now (block .entry)) at) ⌝ }
 {
     if uses_choice(kind) {
         return buf::get_u64(block, at);
@@ -62,7 +63,7 @@ fn choice(kind: u64, block: &[u8], at: usize) -> u64
 
 fn pressure(kind: u64, block: &[u8], at: usize) -> f64
     requires { ⌜ at + 32 ≤ length (now block) ⌝ }
-    ensures { λ r. ⌜ r ≡ pressureOf kind (now (block .entry)) at ⌝ }
+    ensures { λ r. ⌜ r ≡ usedPressure kind (f64At (now (block .entry)) (at + 16)) ⌝ }
 {
     if kind <= 2 {
         return buf::get_f64(block, at + 16);
@@ -72,7 +73,7 @@ fn pressure(kind: u64, block: &[u8], at: usize) -> f64
 
 fn start(kind: u64, choice: u64, block: &[u8], at: usize) -> f64
     requires { ⌜ at + 32 ≤ length (now block) ⌝ }
-    ensures { λ r. ⌜ r ≡ startOf kind choice (now (block .entry)) at ⌝ }
+    ensures { λ r. ⌜ r ≡ usedStart kind choice (f64At (now (block .entry)) (at + 24)) ⌝ }
 {
     if uses_start(kind, choice) {
         return buf::get_f64(block, at + 24);

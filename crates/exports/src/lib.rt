@@ -1,6 +1,7 @@
-// The functions that bench/ and trials/ call, under C's names and with the contracts of what they call. A layer that is
+// The functions that filing tools, bench/ and trials/ call, under C's names and with the contracts of what they call. A layer that is
 // measured adds its own here.
 ghost use mathlib.Core.Path.{_≡_};
+ghost use lib.ListN.{length};
 ghost use Rattle.float.specs.Root.{root};
 ghost use Rattle.float.specs.Ln.{lnOf};
 ghost use Rattle.jet.specs.Coefficients.{sumOf, productOf, quotientOf, rootOf, logarithmOf, cut};
@@ -10,7 +11,10 @@ ghost use Rattle.records.specs.Answered.{numberOf, answered};
 ghost use Rattle.board_spec.specs.Board.{submitBoard, turnBoard, lookBoard};
 ghost use Rattle.board.specs.Answers.{numberOf as numberSaid, ticketOf, evaluationsOf, densityOf};
 ghost use Rattle.eos.specs.Cubic.{blendBy};
+ghost use Rattle.writer.specs.Packed.{filedBy};
+ghost use Rattle.writer.specs.Written.{verdict, written};
 ghost use Rattle.exports.specs.Rows.{pressureRow, criticalityRow, stabilityRow};
+use block::Conditions;
 use board::Told;
 use jet::Jet;
 
@@ -237,6 +241,31 @@ pub extern "C" fn pr_answer(kind: u64, n: u64, block: &[u8], record: &mut [u8]) 
 {
     let answered = records::answer(kind, n, block, record);
     records::number(answered)
+}
+
+// The writer of request blocks: 0 where the block was written, else the first refusal and the buffer as it was.
+#[no_mangle]
+pub extern "C" fn pr_write_block(
+    kind: u64,
+    n: u64,
+    coefficients: &[f64],
+    interactions: &[f64],
+    fractions: &[f64],
+    choice: u64,
+    temperature: f64,
+    pressure: f64,
+    start: f64,
+    block: &mut [u8],
+) -> u64
+    ensures { λ r. ⌜ (r ≡ verdict kind n (filedBy (now (coefficients .entry)) (now (interactions .entry)) (now (fractions .entry)) (record { choice = choice; temperature = temperature; pressure = pressure; start = start })) (length (now (block .entry)))) × (now (block .exit) ≡ written kind n (filedBy (now (coefficients .entry)) (now (interactions .entry)) (now (fractions .entry)) (record { choice = choice; temperature = temperature; pressure = pressure; start = start })) (now (block .entry))) ⌝ }
+{
+    let c = Conditions {
+        choice,
+        temperature,
+        pressure,
+        start,
+    };
+    writer::write_block(kind, n, coefficients, interactions, fractions, c, block)
 }
 
 // The board's calls. specs/Answers.antt of `board` says what their number means; what a refusal leaves unsaid stands as it was.

@@ -11,9 +11,9 @@ use Rattle.block.specs.SameBytes.{SameRead, SameBytes}
 use Rattle.block.proofs.SameBytes.{pairs-same, numbers-same}
 use Rattle.reader.specs.declared.types.Task.the-variants.{Refused}
 use Rattle.reader.specs.declared.types.Job.{Job}
-use Rattle.reader.specs.View.{check, lastChecks, checked, view}
+use Rattle.reader.specs.View.{check, readyJob, lastChecks, checked, view}
 use Rattle.reader.specs.Alike.{Stage, both-refused, both-pass, SameConditions, SameData, SameNumbers, Alike}
-use Rattle.reader.proofs.ViewLaws.{readyJob, view-refused}
+use Rattle.reader.proofs.ViewLaws.{view-refused}
 
 -- ---- 1 implies 2
 

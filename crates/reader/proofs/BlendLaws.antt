@@ -21,6 +21,7 @@ use Rattle.block.specs.Numbers.{floatsAt, readsFractions, fractionCount, condit
 use Rattle.block.specs.Blend.{at, componentAt, interactionAt, blendOf}
 use Rattle.block.specs.Checks.{positive, componentsFit, interactionsFit, fractionsFit, sumFits, conditionsFit, choices, choiceFits}
 use Rattle.block.proofs.ReadLaws.{sum-row}
+use Rattle.block.proofs.NumberLaws.{numbers-rows}
 use Rattle.reader.specs.View.{taskOf, searched, refused, check, runFits, lastChecks, checked}
 use Rattle.reader.specs.Reading.{notRefused, Reads, searchedCount}
 
@@ -33,7 +34,7 @@ pub blend-read : (kind n : ℕ) (s : List ℕ) (i j l choice : ℕ) (tc a b kapp
     → k ≡ cond (readsFractions kind) (tabulate 64 (λ q. interactionAt n (floatsAt (n * (n - 1) / 2) s j) (q / 8) (q % 8))) (replicate 64 f0)
     → x ≡ tabulate 8 (λ q. at (floatsAt (fractionCount kind n) s l) q)
     → searched kind choice (blendBy n tc a b kappa k x) ≡ searched kind choice (blendOf n (numbersOf kind n s))
-unfolding searched blendOf numbersOf pureOf
+unfolding searched blendOf pureOf
 blend-read kind n s i j l choice tc a b kappa k x ei ej el ec ek ex = go (readsFractions kind) ek
   where
     whole : List Float → Blend
@@ -41,32 +42,27 @@ blend-read kind n s i j l choice tc a b kappa k x ei ej el ec ek ex = go (readsF
 
     go : (t : Bool) → k ≡ cond t (tabulate 64 (λ q. interactionAt n (floatsAt (n * (n - 1) / 2) s j) (q / 8) (q % 8))) (replicate 64 f0)
         → cond t (whole k) (pureOf (whole k) choice) ≡ cond t (blendOf n (numbersOf kind n s)) (pureOf (blendOf n (numbersOf kind n s)) choice)
-    go true e = rw (ec .0, ec .1, ec .2, ec .3, e, ex, ei, ej, el)
-    go false e = rw (ec .0, ec .1, ec .2, ec .3, ei)
+    go true e = rw (numbers-rows kind n s, ec .0, ec .1, ec .2, ec .3, e, ex, ei, ej, el)
+    go false e = rw (numbers-rows kind n s, ec .0, ec .1, ec .2, ec .3, ei)
 
 pub conditions-read : (kind n : ℕ) (s : List ℕ) {i : ℕ} {c : Conditions} → i ≡ offsetOf s conditions → c ≡ conditionsOf kind s i → c ≡ numbersOf kind n s .conditions
-unfolding numbersOf
-conditions-read kind n s ei e = rw (← ei) e
+conditions-read kind n s ei e = rw (numbers-rows kind n s, ← ei) e
 
 -- what each reader tests is the check of the numbers
 module _ (kind n : ℕ) (s : List ℕ) {i : ℕ} {r t : Bool} where
   pub coefficients-fit : i ≡ offsetOf s coefficients → r ≡ componentsFit n (floatsAt (3 * n) s i) → r ≡ t → componentsFit n (numbersOf kind n s .coefficients) ≡ t
-  unfolding numbersOf
-  coefficients-fit ei er e = rw (← ei) (sym er ∙ e)
+  coefficients-fit ei er e = rw (numbers-rows kind n s, ← ei) (sym er ∙ e)
 
   pub interactions-fit : i ≡ offsetOf s interactions → r ≡ interactionsFit n (floatsAt (n * (n - 1) / 2) s i) → r ≡ t → interactionsFit n (numbersOf kind n s .interactions) ≡ t
-  unfolding numbersOf
-  interactions-fit ei er e = rw (← ei) (sym er ∙ e)
+  interactions-fit ei er e = rw (numbers-rows kind n s, ← ei) (sym er ∙ e)
 
   pub fractions-fit : i ≡ offsetOf s fractions → r ≡ fractionsFit n (floatsAt (fractionCount kind n) s i) → r ≡ t → fractionsFit n (numbersOf kind n s .fractions) ≡ t
-  unfolding numbersOf
-  fractions-fit ei er e = rw (← ei) (sym er ∙ e)
+  fractions-fit ei er e = rw (numbers-rows kind n s, ← ei) (sym er ∙ e)
 
 -- the sum of the fractions as they are read into a row of eight
 pub sum-fit : (kind n : ℕ) (s : List ℕ) {l : ℕ} {x : List Float} {r t : Bool} → 1 ≤ n → n ≤ 8 → l ≡ offsetOf s fractions → x ≡ tabulate 8 (λ i. at (floatsAt (fractionCount kind n) s l) i) → r ≡ sumFits kind n x → r ≡ t
     → sumFits kind n (numbersOf kind n s .fractions) ≡ t
-unfolding numbersOf
-sum-fit kind n s h m el ex er e = rw (← el) (sym (rw ex at er ∙ sum-row kind n _ h m) ∙ e)
+sum-fit kind n s h m el ex er e = rw (numbers-rows kind n s, ← el) (sym (rw ex at er ∙ sum-row kind n _ h m) ∙ e)
 
 -- the second row where one component is searched
 pub unread : (kind : ℕ) (read : List Float) → readsFractions kind ≡ false → cond (readsFractions kind) read (replicate 64 f0) ≡ replicate 64 f0

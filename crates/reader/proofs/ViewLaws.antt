@@ -1,6 +1,6 @@
 -- What holds of every refusal and of the job that passes every check holds of every view: the walk along the checks, once. Likewise along the kinds. Assumes nothing.
 use mathlib.Core.Path.{_≡_, refl, ap, _∙_}
-use Prim.Native.Nat.{ℕ}
+use Prim.Native.Nat.{ℕ, suc}
 use mathlib.Core.Bool.{Bool, true, false, cond, false≢true}
 use mathlib.Core.List.{List, [], _∷_}
 use lib.ListN.{length}
@@ -21,13 +21,9 @@ use Rattle.block.specs.Pairs.{pairsFit}
 use Rattle.block.specs.Numbers.{numbersOf}
 use Rattle.block.specs.Blend.{blendOf}
 use Rattle.block.specs.Checks.{componentsFit, interactionsFit, fractionsFit, sumFits, conditionsFit}
-use Rattle.reader.specs.View.{initialOf, branchOf, givenOf, taskOf, refused, check, ofData, runBlend, runFits, lastChecks, checked, view}
-use Rattle.reader.specs.Reading.{notRefused}
+use Rattle.reader.specs.View.{initialOf, branchOf, givenOf, taskOf, refused, check, ofData, readyJob, runFits, lastChecks, checked, requested, view}
+use Rattle.reader.specs.Reading.{notRefused, refusalOf}
 use Rattle.reader.proofs.types.Task.{the-type}
-
--- the job that passes every check
-abbrev pub readyJob : (kind n : ℕ) → Numbers → Job
-readyJob kind n d = record { task = taskOf kind (d .conditions); blend = runBlend kind n d }
 
 abbrev pub OfData : ℕ → Type 0
 OfData number = ofData number ≡ true
@@ -112,3 +108,51 @@ not-refused-left (Spinodal t) h = refl
 pub view-not-refused : (kind n : ℕ) (s : List ℕ) (task : Task) (rows blend : Blend) → task ≡ view kind n s .task → rows ≡ view kind n s .blend → blend ≡ rows
     → _≡_ {A = Job} (record { task = task; blend = blend }) (view kind n s)
 view-not-refused kind n s task rows blend et er eb = rw (eb, et, er)
+
+-- ---- a request that no check refuses
+
+check-passed : (ok : Bool) (number : ℕ) (next : Job) → refusalOf (check ok (suc number) next .task) ≡ 0 → (ok ≡ true) × (refusalOf (next .task) ≡ 0)
+unfolding refusalOf refused
+check-passed true number next e = (refl, e)
+check-passed false number next e = absurd (omega arith)
+
+-- each check that its job rests on, and the job
+pub record Passed (kind n size : ℕ) (pairs : Bool) (d : Numbers) : Type 0 where
+  pub kind-fits : kindFits kind ≡ true
+  pub count-fits : countFits n ≡ true
+  pub size-fits : eqb size 640 ≡ true
+  pub pairs-fit : pairs ≡ true
+  pub job : checked kind n d ≡ readyJob kind n d
+
+data-passed : (kind n : ℕ) (d : Numbers) → refusalOf (checked kind n d .task) ≡ 0 → checked kind n d ≡ readyJob kind n d
+unfolding checked lastChecks
+data-passed kind n d e =
+    let p₁ = check-passed (componentsFit n (d .coefficients)) 11 _ e in
+    let p₂ = check-passed (interactionsFit n (d .interactions)) 12 _ (p₁ .1) in
+    let p₃ = check-passed (fractionsFit n (d .fractions)) 13 _ (p₂ .1) in
+    let p₄ = check-passed (sumFits kind n (d .fractions)) 16 _ (p₃ .1) in
+    let p₅ = check-passed (conditionsFit kind (d .conditions)) 14 _ (p₄ .1) in
+    let p₆ = check-passed (runFits kind n (d .conditions) (blendOf n d)) 15 _ (p₅ .1) in
+    rw (p₁ .0, p₂ .0, p₃ .0, p₄ .0, p₅ .0, p₆ .0)
+
+pub requested-passed : (kind n size : ℕ) (pairs : Bool) (d : Numbers) → refusalOf (requested kind n size pairs d .task) ≡ 0 → Passed kind n size pairs d
+requested-passed kind n size pairs d e =
+    let p₁ = check-passed (kindFits kind) 1 _ e in
+    let p₂ = check-passed (countFits n) 2 _ (p₁ .1) in
+    let p₃ = check-passed (eqb size 640) 7 _ (p₂ .1) in
+    let p₄ = check-passed pairs 10 _ (p₃ .1) in
+    record { kind-fits = p₁ .0; count-fits = p₂ .0; size-fits = p₃ .0; pairs-fit = p₄ .0; job = data-passed kind n d (p₄ .1) }
+
+-- no number where there is no refusal
+pub no-number : (task : Task) → notRefused task ≡ true → refusalOf task ≡ 0
+unfolding notRefused refusalOf
+no-number (Refused number) h = absurd (false≢true h)
+no-number (DensityIteration t p initial) h = refl
+no-number (DensityIterationStable t p) h = refl
+no-number (PressureSpinodal t start) h = refl
+no-number (PressureSpinodalBranch t branch) h = refl
+no-number (CriticalPoint t density) h = refl
+no-number (Spinodal t) h = refl
+
+pub ready-no-number : (kind n : ℕ) (d : Numbers) → refusalOf (readyJob kind n d .task) ≡ 0
+ready-no-number kind n d = no-number _ (task-not-refused kind (d .conditions))

@@ -18,6 +18,16 @@ notRefused (PressureSpinodalBranch t branch) = true
 notRefused (CriticalPoint t density) = true
 notRefused (Spinodal t) = true
 
+-- the number that a task is refused by; 0 where it is not
+unfoldable pub refusalOf : Task → ℕ
+refusalOf (Refused number) = number
+refusalOf (DensityIteration t p initial) = 0
+refusalOf (DensityIterationStable t p) = 0
+refusalOf (PressureSpinodal t start) = 0
+refusalOf (PressureSpinodalBranch t branch) = 0
+refusalOf (CriticalPoint t density) = 0
+refusalOf (Spinodal t) = 0
+
 -- the job's task, and its blend where it is not refused
 abbrev pub Reads : Job → Task → Blend → Type 0
 Reads job task blend = (task ≡ job .task) × (notRefused task ≡ true → blend ≡ job .blend)

@@ -64,6 +64,10 @@ ofData number = leb 11 number && leb number 17
 abbrev pub runBlend : (kind n : ℕ) → Numbers → Blend
 runBlend kind n d = searched kind (d .conditions .choice) (blendOf n d)
 
+-- the job that passes every check
+abbrev pub readyJob : (kind n : ℕ) → Numbers → Job
+readyJob kind n d = record { task = taskOf kind (d .conditions); blend = runBlend kind n d }
+
 -- "16 choice, or the run's maximum density not finite and positive"
 unfoldable pub runFits : (kind n : ℕ) → Conditions → Blend → Bool
 runFits kind n c whole = choiceFits kind n (c .choice) && positive (maxDensity (searched kind (c .choice) whole))
@@ -80,11 +84,15 @@ checked kind n d =
     (check (fractionsFit n (d .fractions)) 14
     (check (sumFits kind n (d .fractions)) 17 (lastChecks kind n (d .conditions) (blendOf n d)))))
 
--- "2 kind not 1 to 6; 3 N not 1 to 8; .. 8 block not 640 bytes", in submit's order; then the data
-unfoldable pub view : (kind n : ℕ) → List ℕ → Job
-view kind n s =
+-- "2 kind not 1 to 6; 3 N not 1 to 8; .. 8 block not 640 bytes", in submit's order; then the data, of which 11 comes before the numbers. The reader of a block and the
+-- writer of one go by it
+abbrev pub requested : (kind n size : ℕ) (pairs : Bool) → Numbers → Job
+requested kind n size pairs d =
     check (kindFits kind) 2
     (check (countFits n) 3
-    (check (eqb (length s) 640) 8
-    (check (pairsFit n s) 11
-    (checked kind n (numbersOf kind n s)))))
+    (check (eqb size 640) 8
+    (check pairs 11
+    (checked kind n d))))
+
+unfoldable pub view : (kind n : ℕ) → List ℕ → Job
+view kind n s = requested kind n (length s) (pairsFit n s) (numbersOf kind n s)

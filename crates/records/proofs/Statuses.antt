@@ -20,8 +20,8 @@ use Rattle.block.specs.declared.types.Conditions.{Conditions}
 use Rattle.reader.specs.declared.types.Job.{Job}
 use Rattle.reader.specs.declared.types.Task.{Task}
 use Rattle.block.specs.Numbers.{numbersOf}
-use Rattle.reader.specs.View.{taskOf, refused, check, lastChecks, checked, view}
-use Rattle.reader.proofs.ViewLaws.{readyJob, task-keeps}
+use Rattle.reader.specs.View.{taskOf, refused, check, lastChecks, checked, view, readyJob}
+use Rattle.reader.proofs.ViewLaws.{task-keeps}
 use Rattle.records.specs.Outcome.{courseOf, refusedEnd, searchEnd, endOf, outcomeOf}
 use Rattle.records.specs.Record.{floatBytes, sealedBytes, sealedOf}
 use Rattle.schedule.specs.Refusals.{Inside}

@@ -4,6 +4,7 @@ use mathlib.Core.List.{List}
 use lib.Dec.{eqb}
 use lib.Ieee.{Float, binary64}
 use lib.Ieee.Fits.{div-fits}
+use Rattle.buf.specs.Bytes.{u64At}
 use Rattle.buf.proofs.Floats.{f64-fits}
 use Rattle.eos.specs.declared.types.Blend.{Blend}
 use Rattle.eos.specs.Cubic.{maxDensity}
@@ -20,9 +21,9 @@ use Rattle.reader.specs.declared.types.Task.{Task}
 use Rattle.reader.specs.declared.types.Task.the-variants as Task
 use Rattle.reader.specs.declared.types.Job.{Job}
 use Rattle.block.specs.Pairs.{offsetOf, conditions}
-use Rattle.block.specs.Numbers.{usesPressure, usesStart, choiceOf, pressureOf, conditionsOf, numbersOf}
-use Rattle.block.specs.Numbers as Read
+use Rattle.block.specs.Numbers.{usesPressure, usesStart, usedChoice, usedPressure, usedStart, used, conditionsAt, conditionsOf}
 use Rattle.block.specs.Checks.{plusZero}
+use Rattle.block.proofs.NumberLaws.{numbers-rows}
 use Rattle.reader.specs.View.{initialOf, givenOf, taskOf, refused, view}
 use Rattle.reader.proofs.ViewLaws.{view-keeps, task-keeps}
 use Rattle.stepping.specs.declared.types.Work.the-variants as Work
@@ -56,11 +57,11 @@ record Given (c : Conditions) : Type 0 where
   start : Fit (c .start)
 
 conditions-read : (kind : ℕ) (s : List ℕ) (at : ℕ) → Given (conditionsOf kind s at)
-unfolding conditionsOf pressureOf Read.startOf
+unfolding conditionsOf used conditionsAt usedPressure usedStart
 conditions-read kind s at = record {
   temperature = f64-fits s (at + 8);
   pressure = cond-keeps Fit (usesPressure kind) _ _ (f64-fits s (at + 16)) zero-fits;
-  start = cond-keeps Fit (usesStart kind (choiceOf kind s at)) _ _ (f64-fits s (at + 24)) zero-fits;
+  start = cond-keeps Fit (usesStart kind (usedChoice kind (u64At s at))) _ _ (f64-fits s (at + 24)) zero-fits;
 }
 
 initial-fits : (choice : ℕ) (ρ : Float) → Fit ρ → InitialFits (initialOf choice ρ)
@@ -82,9 +83,9 @@ refused-fits number = tt
 
 -- a request is refused, or the floats of its task fit
 pub view-fits : (kind n : ℕ) (block : List ℕ) → TaskFits (view kind n block .task)
-unfolding numbersOf
 view-fits kind n block =
-    view-keeps (λ (job : Job). TaskFits (job .task)) kind n block (λ number e. refused-fits number) (task-fits kind (numbersOf kind n block .conditions) (conditions-read kind block (offsetOf block conditions)))
+    view-keeps (λ (job : Job). TaskFits (job .task)) kind n block (λ number e. refused-fits number)
+    (rw (numbers-rows kind n block) (task-fits kind _ (conditions-read kind block (offsetOf block conditions))))
 
 -- and so does the maximum density of any blend
 pub max-density-fits : (blend : Blend) → Fit (maxDensity blend)

@@ -1,6 +1,6 @@
 -- `block::numbers::conditions` meets its contract. Assumes nothing.
 use borrow.Author.Needs.{needs}
-use Rattle.block.specs.Numbers.{conditionsOf}
+use Rattle.block.specs.Numbers.{used, conditionsAt, conditionsOf}
 use Rattle.block.proofs.numbers.conditions.Statement.{statement}
 use Rattle.block.proofs.numbers.conditions.Tie as tie
 
@@ -20,7 +20,7 @@ start-requires : tie.Need-start-requires
 start-requires c κs = search needs
 
 returns : tie.Need-returns
-unfolding conditionsOf
+unfolding conditionsOf used conditionsAt
 returns c = simp (← c .before .before .before .choice .ensures, ← c .before .before .get-f64 .ensures, ← c .before .pressure .ensures, ← c .start .ensures)
 
 pub conditions-spec : {M : Type 1} → statement M

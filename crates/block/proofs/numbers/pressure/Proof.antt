@@ -1,7 +1,7 @@
 -- `block::numbers::pressure` meets its contract. Assumes nothing.
 use borrow.Author.Needs.{needs}
 use borrow.Author.Tests.{le-leb, lt-leb}
-use Rattle.block.specs.Numbers.{pressureOf, usesPressure}
+use Rattle.block.specs.Numbers.{usedPressure, usesPressure}
 use Rattle.block.proofs.numbers.pressure.Statement.{statement}
 use Rattle.block.proofs.numbers.pressure.Tie as tie
 
@@ -12,11 +12,11 @@ get-f64-requires : tie.Need-get-f64-requires
 get-f64-requires c κs = search needs
 
 returns : tie.Need-returns
-unfolding pressureOf usesPressure
+unfolding usedPressure usesPressure
 returns c = simp (le-leb _ _ (c .before .if1 .taken), ← c .get-f64 .ensures)
 
 returns-2 : tie.Need-returns-2
-unfolding pressureOf usesPressure
+unfolding usedPressure usesPressure
 returns-2 c = simp (lt-leb _ _ (c .if1 .left))
 
 pub pressure-spec : {M : Type 1} → statement M

@@ -1,0 +1,4 @@
+pub mod PackedLaws
+pub mod PutLaws
+pub mod WriterLaws
+pub mod Cases

@@ -1,0 +1,72 @@
+-- What holds of written blocks. Numbers are the same where they are the same values: every NaN is one value, so two blocks may hold the same numbers in other bytes, and
+-- a NaN that no kind reads is written as 7FF8000000000000 whatever its pattern was. Statements only; proofs/WriterLaws.antt proves them.
+use mathlib.Core.Path.{_≡_}
+use Prim.Native.Nat.{ℕ, _^_, _<_}
+use mathlib.Core.Bool.{true}
+use mathlib.Core.List.{List}
+use lib.ListN.{length}
+use lib.Dec.{T}
+use lib.Ieee.{Float, binary64, fits}
+use Rattle.block.specs.declared.types.Conditions.{Conditions}
+use Rattle.block.specs.declared.types.Numbers.{Numbers}
+use Rattle.block.specs.Pairs.{pairsFit}
+use Rattle.block.specs.Numbers.{filedIn, asRead, numbersOf}
+use Rattle.block.specs.Blend.{at}
+use Rattle.reader.specs.View.{readyJob, view}
+use Rattle.reader.specs.Reading.{refusalOf}
+use Rattle.records.specs.Record.{sealedOf}
+use Rattle.writer.specs.Written.{verdict, written}
+
+-- Numbers that the code's types hold: floats that fit binary64, a choice below 2^64. What a caller hands to the writer and what stands in a block are such.
+abbrev pub Binary64 : List Float → Type 0
+Binary64 l = (i : ℕ) → i < length l → T (fits binary64 (at l i))
+
+pub record Held (c : Conditions) : Type 0 where
+  pub choice : c .choice < 2 ^ 64
+  pub temperature : T (fits binary64 (c .temperature))
+  pub pressure : T (fits binary64 (c .pressure))
+  pub start : T (fits binary64 (c .start))
+
+pub record Machine (d : Numbers) : Type 0 where
+  pub coefficients : Binary64 (d .coefficients)
+  pub interactions : Binary64 (d .interactions)
+  pub fractions : Binary64 (d .fractions)
+  pub conditions : Held (d .conditions)
+
+-- "What the board's reader finds in a written block must be what was given"
+pub record Found (kind n : ℕ) (d : Numbers) (buffer : List ℕ) : Type 0 where
+  -- in the parts, read or not
+  pub in-parts : filedIn n (written kind n d buffer) ≡ d
+  -- as the kind reads them
+  pub as-read : numbersOf kind n (written kind n d buffer) ≡ asRead kind n d
+  -- the job of these numbers, which is no refusal
+  pub as-job : view kind n (written kind n d buffer) ≡ readyJob kind n (asRead kind n d)
+  pub not-refused : refusalOf (view kind n (written kind n d buffer) .task) ≡ 0
+
+abbrev pub WhatWasGiven : Type 0
+WhatWasGiven = (kind n : ℕ) (d : Numbers) (buffer : List ℕ) → Machine d → verdict kind n d (length buffer) ≡ 0 → Found kind n d buffer
+
+-- "the buffer is then unchanged"
+abbrev pub RefusedUnchanged : Type 0
+RefusedUnchanged = (kind n : ℕ) (d : Numbers) (buffer : List ℕ) → (verdict kind n d (length buffer) ≡ 0 → ⊥) → written kind n d buffer ≡ buffer
+
+-- "a block that the reader accepts, read and written again, must read the same"
+pub record Again (kind n : ℕ) (block buffer : List ℕ) : Type 0 where
+  pub accepted : verdict kind n (filedIn n block) (length buffer) ≡ 0
+  -- in the parts, read or not
+  pub in-parts : filedIn n (written kind n (filedIn n block) buffer) ≡ filedIn n block
+  -- as the kind reads them
+  pub as-read : numbersOf kind n (written kind n (filedIn n block) buffer) ≡ numbersOf kind n block
+  pub as-job : view kind n (written kind n (filedIn n block) buffer) ≡ view kind n block
+  pub as-sealed : sealedOf kind n (written kind n (filedIn n block) buffer) ≡ sealedOf kind n block
+
+abbrev pub ReadsTheSame : Type 0
+ReadsTheSame = (kind n : ℕ) (block buffer : List ℕ) → length buffer ≡ 640 → refusalOf (view kind n block .task) ≡ 0 → Again kind n block buffer
+
+-- The writer refuses what stands in a block's parts exactly where the reader refuses the block, by the same number.
+abbrev pub SameVerdict : Type 0
+SameVerdict = (kind n : ℕ) (block : List ℕ) → pairsFit n block ≡ true → verdict kind n (filedIn n block) (length block) ≡ refusalOf (view kind n block .task)
+
+-- Blocks with the same numbers where the kind reads them have the same sealed bytes, wherever their parts stand.
+abbrev pub SealedByNumbers : Type 0
+SealedByNumbers = (kind n : ℕ) (s t : List ℕ) → length s ≡ length t → pairsFit n s ≡ true → pairsFit n t ≡ true → numbersOf kind n s ≡ numbersOf kind n t → sealedOf kind n s ≡ sealedOf kind n t

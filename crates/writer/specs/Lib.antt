@@ -1,0 +1,4 @@
+pub mod Packed
+pub mod Written
+pub mod Laws
+pub mod Cases
