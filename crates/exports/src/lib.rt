@@ -13,6 +13,7 @@ ghost use Rattle.board.specs.Answers.{numberOf as numberSaid, ticketOf, evaluat
 ghost use Rattle.eos.specs.Cubic.{blendBy};
 ghost use Rattle.writer.specs.Packed.{filedBy};
 ghost use Rattle.writer.specs.Written.{verdict, written};
+ghost use Rattle.writer.specs.Laws.{Found};
 ghost use Rattle.exports.specs.Rows.{pressureRow, criticalityRow, stabilityRow};
 use block::Conditions;
 use board::Told;
@@ -257,7 +258,7 @@ pub extern "C" fn pr_write_block(
     start: f64,
     block: &mut [u8],
 ) -> u64
-    ensures { λ r. ⌜ (r ≡ verdict kind n (filedBy (now (coefficients .entry)) (now (interactions .entry)) (now (fractions .entry)) (record { choice = choice; temperature = temperature; pressure = pressure; start = start })) (length (now (block .entry)))) × (now (block .exit) ≡ written kind n (filedBy (now (coefficients .entry)) (now (interactions .entry)) (now (fractions .entry)) (record { choice = choice; temperature = temperature; pressure = pressure; start = start })) (now (block .entry))) ⌝ }
+    ensures { λ r. ⌜ (r ≡ verdict kind n (filedBy (now (coefficients .entry)) (now (interactions .entry)) (now (fractions .entry)) (record { choice = choice; temperature = temperature; pressure = pressure; start = start })) (length (now (block .entry)))) × (now (block .exit) ≡ written kind n (filedBy (now (coefficients .entry)) (now (interactions .entry)) (now (fractions .entry)) (record { choice = choice; temperature = temperature; pressure = pressure; start = start })) (now (block .entry))) × (r ≡ 0 → Found kind n (filedBy (now (coefficients .entry)) (now (interactions .entry)) (now (fractions .entry)) (record { choice = choice; temperature = temperature; pressure = pressure; start = start })) (now (block .entry))) ⌝ }
 {
     let c = Conditions {
         choice,

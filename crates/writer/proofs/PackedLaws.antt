@@ -23,7 +23,7 @@ use Rattle.block.proofs.PairLaws.{both}
 use Rattle.block.proofs.Sizes.{product}
 use Rattle.writer.specs.Packed.{coefficientsFrom, interactionsFrom, fractionsFrom, conditionsFrom, packedEnd, pairBytes, pairsBytes, floatBytes, conditionBytes, filled, packed}
 use Rattle.writer.specs.Written.{countsFit, listsFit}
-use Rattle.writer.specs.Laws.{Binary64, Held, Machine}
+use Rattle.writer.specs.Laws.{Binary64, ConditionsRepresentable, Representable}
 
 -- ---- numbers in bytes that stand one after the other
 
@@ -73,7 +73,7 @@ length-conditions : (c : Conditions) → length (conditionBytes c) ≡ 32
 unfolding conditionBytes
 length-conditions c = length-append (bytesOf 8 (c .choice)) _ ∙ rw (length-bytesOf, length-floats)
 
-conditions-read : (p s : List ℕ) (c : Conditions) (m : ℕ) → length p ≡ m → Held c → conditionsAt (p ++ (conditionBytes c ++ s)) m ≡ c
+conditions-read : (p s : List ℕ) (c : Conditions) (m : ℕ) → length p ≡ m → ConditionsRepresentable c → conditionsAt (p ++ (conditionBytes c ++ s)) m ≡ c
 unfolding conditionsAt conditionBytes
 conditions-read p s c m e h = rw (choice-at, float-there 0 (omega arith), float-there 1 (omega arith), float-there 2 (omega arith))
   where
@@ -238,7 +238,7 @@ packs-fit n s h p =
 
 -- ---- the numbers of the whole block
 
-numbers-read : (n : ℕ) (d : Numbers) (s : List ℕ) → listsFit n d ≡ true → Machine d → Packs n s → s ≡ packed n d → filedIn n s ≡ d
+numbers-read : (n : ℕ) (d : Numbers) (s : List ℕ) → listsFit n d ≡ true → Representable d → Packs n s → s ≡ packed n d → filedIn n s ≡ d
 unfolding filedIn
 numbers-read n d s fit m p e = rw (p .offset-0, p .offset-1, p .offset-2, p .offset-3, e, spread n d fit, list-0, list-1, list-2, conditions-3)
   where
@@ -297,5 +297,5 @@ module _ (n : ℕ) (d : Numbers) (h : n ≤ 8) (fit : listsFit n d ≡ true) whe
   pub packed-fits : pairsFit n (packed n d) ≡ true
   packed-fits = packs-fit n (packed n d) h packs
 
-  pub filed-packed : Machine d → filedIn n (packed n d) ≡ d
+  pub filed-packed : Representable d → filedIn n (packed n d) ≡ d
   filed-packed m = numbers-read n d (packed n d) fit m packs refl

@@ -1,5 +1,5 @@
 -- The laws of `specs/Laws.antt`, and what the code's returns cite. Assumes nothing.
-use mathlib.Core.Path.{_≡_, sym, ap, _∙_}
+use mathlib.Core.Path.{_≡_, refl, sym, ap, _∙_}
 use Prim.Native.Nat.{ℕ, zero, suc, _+_, _-_, _*_, _/_, _≤_}
 use native.Mathlib.Omega.{arith}
 use native.Mathlib.Nat.{zero-add}
@@ -20,22 +20,64 @@ use Rattle.block.specs.Pairs.{offsetOf, coefficients, interactions, fractions, 
 use Rattle.block.specs.Numbers.{listAt, conditionsAt, filedIn, asRead, numbersOf}
 use Rattle.block.proofs.Lists.{length-tabulate, getD-tabulate}
 use Rattle.block.proofs.Sizes.{product}
+use Rattle.reader.specs.declared.types.Job.{Job}
 use Rattle.reader.specs.View.{refused, readyJob, checked, view}
 use Rattle.reader.specs.Reading.{refusalOf}
 use Rattle.reader.proofs.ViewLaws.{Passed, requested-passed, ready-no-number}
 use Rattle.records.proofs.RecordLaws.{sealed-alike}
 use Rattle.writer.specs.Packed.{filled, packed}
 use Rattle.writer.specs.Written.{countsFit, listsFit, verdict, written}
-use Rattle.writer.specs.Laws.{Binary64, Machine, WhatWasGiven, RefusedUnchanged, ReadsTheSame, SameVerdict, SealedByNumbers}
+use Rattle.writer.specs.Laws.{Binary64, Representable, Found, WhatWasGiven, RefusedUnchanged, ReadsTheSame, AsTheReader, SameVerdict, SealedByNumbers}
 use Rattle.writer.proofs.PackedLaws.{same, length-filled, length-packed, packed-fits, filed-packed}
 
 -- ---- a packed block is read as the numbers that it was made of
 
-view-packed : (kind n : ℕ) (d : Numbers) → kindFits kind ≡ true → countFits n ≡ true → listsFit n d ≡ true → Machine d → view kind n (packed n d) ≡ checked kind n (asRead kind n d)
+view-packed : (kind n : ℕ) (d : Numbers) → kindFits kind ≡ true → countFits n ≡ true → listsFit n d ≡ true → Representable d → view kind n (packed n d) ≡ checked kind n (asRead kind n d)
 unfolding view numbersOf
 view-packed kind n d k c f m =
     let h = count-within n c .high in
     rw (k, c, eq-eqb _ _ (length-packed n d f h), packed-fits n d h f, filed-packed n d h f m)
+
+-- and refused by the same number
+verdict-data : (kind n : ℕ) (d : Numbers) → kindFits kind ≡ true → countFits n ≡ true → listsFit n d ≡ true → verdict kind n d 640 ≡ refusalOf (checked kind n (asRead kind n d) .task)
+unfolding verdict
+verdict-data kind n d k c f = rw (k, c, f)
+
+pub as-the-reader : AsTheReader
+unfolding verdict view refusalOf refused
+as-the-reader kind n d f m = go (kindFits kind) refl (countFits n) refl
+  where
+    go : (s : Bool) → kindFits kind ≡ s → (t : Bool) → countFits n ≡ t → verdict kind n d 640 ≡ refusalOf (view kind n (packed n d) .task)
+    go false k t c = rw k
+    go true k false c = rw (k, c)
+    go true k true c = verdict-data kind n d k c f ∙ ap (λ (job : Job). refusalOf (job .task)) (sym (view-packed kind n d k c f m))
+
+-- the buffer on a refusal, and where there is none
+kept : (t : Bool) (u v : List ℕ) → t ≡ false → v ≡ cond t u v
+kept t u v e = rw e
+
+made : (t : Bool) (u v : List ℕ) → t ≡ true → u ≡ cond t u v
+made t u v e = rw e
+
+-- ---- what was given is found
+
+written-packed : (kind n : ℕ) (d : Numbers) (buffer : List ℕ) → verdict kind n d (length buffer) ≡ 0 → written kind n d buffer ≡ packed n d
+unfolding written
+written-packed kind n d buffer e = sym (made _ _ _ (ap (λ (k : ℕ). eqb k 0) e))
+
+pub what-was-given : WhatWasGiven
+unfolding numbersOf
+what-was-given kind n d buffer m e =
+    let p = requested-passed kind n (length buffer) (listsFit n d) (asRead kind n d) (unfold verdict in e) in
+    let w = written-packed kind n d buffer e in
+    let h = count-within n (p .count-fits) .high in
+    let parts = ap (filedIn n) w ∙ filed-packed n d h (p .pairs-fit) m in
+    let job = ap (view kind n) w ∙ view-packed kind n d (p .kind-fits) (p .count-fits) (p .pairs-fit) m ∙ p .job in
+    record { in-parts = parts; as-read = ap (asRead kind n) parts; as-job = job; not-refused = rw job (ready-no-number kind n (asRead kind n d)) }
+
+pub refused-unchanged : RefusedUnchanged
+unfolding written
+refused-unchanged kind n d buffer z = sym (kept _ _ _ (ne-eqb _ 0 z))
 
 -- ---- what the code's returns cite
 
@@ -63,21 +105,14 @@ over-zeros n d s block h f es eb =
     let room : length (filled n d) ≤ length (zeros 640) = rw (length-zeros) (omega arith) in
     eb ∙ ap (λ (l : List ℕ). splice l 0 (filled n d)) es ∙ splice-start (zeros 640) (filled n d) room ∙ ap (λ (l : List ℕ). filled n d ++ l) (drop-zeros 640 (length (filled n d)) ∙ ap (λ (k : ℕ). zeros (640 - k)) size)
 
--- the buffer on a refusal, and where there is none
-kept : (t : Bool) (u v : List ℕ) → t ≡ false → v ≡ cond t u v
-kept t u v e = rw e
-
-made : (t : Bool) (u v : List ℕ) → t ≡ true → u ≡ cond t u v
-made t u v e = rw e
-
 module _ (kind n : ℕ) (d : Numbers) (buffer : List ℕ) where
   -- what is answered and left on a refusal, and where there is none
   abbrev pub Answers : (number : ℕ) (bytes : List ℕ) → Type 0
-  Answers number bytes = (number ≡ verdict kind n d (length buffer)) × (bytes ≡ written kind n d buffer)
+  Answers number bytes = (number ≡ verdict kind n d (length buffer)) × (bytes ≡ written kind n d buffer) × (number ≡ 0 → Found kind n d buffer)
 
   refuses : (number : ℕ) → suc number ≡ verdict kind n d (length buffer) → Answers (suc number) buffer
   unfolding written
-  refuses number e = let not-zero : suc number ≡ 0 → ⊥ = λ z. omega arith in (e, kept _ _ _ (ap (λ (k : ℕ). eqb k 0) (sym e) ∙ ne-eqb (suc number) 0 not-zero))
+  refuses number e = let not-zero : suc number ≡ 0 → ⊥ = λ z. omega arith in (e, kept _ _ _ (ap (λ (k : ℕ). eqb k 0) (sym e) ∙ ne-eqb (suc number) 0 not-zero), λ z. absurd (not-zero z))
 
   pub refuses-2 : kindFits kind ≡ false → Answers 2 buffer
   unfolding verdict refusalOf refused
@@ -96,45 +131,24 @@ module _ (kind n : ℕ) (d : Numbers) (buffer : List ℕ) where
   refuses-11 k c l f = refuses 10 (rw (k, c, eq-eqb _ _ l, f))
 
   -- the reader's number is the verdict
-  numbered : (number : ℕ) (block : List ℕ) → kindFits kind ≡ true → countFits n ≡ true → length buffer ≡ 640 → listsFit n d ≡ true → Machine d → block ≡ packed n d
-      → number ≡ refusalOf (view kind n block .task) → number ≡ verdict kind n d (length buffer)
-  unfolding verdict
-  numbered number block k c l f m eb en = en ∙ rw (eb, view-packed kind n d k c f m) (sym (rw (k, c, eq-eqb _ _ l, f)))
+  numbered : (number : ℕ) (block : List ℕ) → length buffer ≡ 640 → listsFit n d ≡ true → Representable d → block ≡ packed n d → number ≡ refusalOf (view kind n block .task)
+      → number ≡ verdict kind n d (length buffer)
+  numbered number block l f m eb en = en ∙ ap (λ (s : List ℕ). refusalOf (view kind n s .task)) eb ∙ sym (as-the-reader kind n d f m) ∙ ap (verdict kind n d) (sym l)
 
   -- and a refusal where it is not 0
-  pub refuses-data : (number : ℕ) (block : List ℕ) → kindFits kind ≡ true → countFits n ≡ true → length buffer ≡ 640 → listsFit n d ≡ true → Machine d → block ≡ packed n d
+  pub refuses-data : (number : ℕ) (block : List ℕ) → length buffer ≡ 640 → listsFit n d ≡ true → Representable d → block ≡ packed n d
       → number ≡ refusalOf (view kind n block .task) → (number ≡ 0 → ⊥) → Answers number buffer
   unfolding written
-  refuses-data number block k c l f m eb en z = let e = numbered number block k c l f m eb en in (e, kept _ _ _ (ap (λ (k : ℕ). eqb k 0) (sym e) ∙ ne-eqb number 0 z))
+  refuses-data number block l f m eb en z = let e = numbered number block l f m eb en in (e, kept _ _ _ (ap (λ (k : ℕ). eqb k 0) (sym e) ∙ ne-eqb number 0 z), λ q. absurd (z q))
 
   -- else the block
-  pub writes : (number : ℕ) (block bytes : List ℕ) → kindFits kind ≡ true → countFits n ≡ true → length buffer ≡ 640 → listsFit n d ≡ true → Machine d → block ≡ packed n d
+  pub writes : (number : ℕ) (block bytes : List ℕ) → countFits n ≡ true → length buffer ≡ 640 → listsFit n d ≡ true → Representable d → block ≡ packed n d
       → number ≡ refusalOf (view kind n block .task) → number ≡ 0 → bytes ≡ splice buffer 0 block → Answers 0 bytes
   unfolding written
-  writes number block bytes k c l f m eb en z ew =
-      let e : 0 ≡ verdict kind n d (length buffer) = sym z ∙ numbered number block k c l f m eb en in
+  writes number block bytes c l f m eb en z ew =
+      let e : 0 ≡ verdict kind n d (length buffer) = sym z ∙ numbered number block l f m eb en in
       let size = length-packed n d f (count-within n c .high) in
-      (e, ew ∙ ap (splice buffer 0) eb ∙ over buffer (packed n d) (size ∙ sym l) ∙ made _ _ _ (ap (λ (k : ℕ). eqb k 0) (sym e)))
-
--- ---- what was given is found
-
-written-packed : (kind n : ℕ) (d : Numbers) (buffer : List ℕ) → verdict kind n d (length buffer) ≡ 0 → written kind n d buffer ≡ packed n d
-unfolding written
-written-packed kind n d buffer e = sym (made _ _ _ (ap (λ (k : ℕ). eqb k 0) e))
-
-pub what-was-given : WhatWasGiven
-unfolding numbersOf
-what-was-given kind n d buffer m e =
-    let p = requested-passed kind n (length buffer) (listsFit n d) (asRead kind n d) (unfold verdict in e) in
-    let w = written-packed kind n d buffer e in
-    let h = count-within n (p .count-fits) .high in
-    let parts = ap (filedIn n) w ∙ filed-packed n d h (p .pairs-fit) m in
-    let job = ap (view kind n) w ∙ view-packed kind n d (p .kind-fits) (p .count-fits) (p .pairs-fit) m ∙ p .job in
-    record { in-parts = parts; as-read = ap (asRead kind n) parts; as-job = job; not-refused = rw job (ready-no-number kind n (asRead kind n d)) }
-
-pub refused-unchanged : RefusedUnchanged
-unfolding written
-refused-unchanged kind n d buffer z = sym (kept _ _ _ (ne-eqb _ 0 z))
+      (e, ew ∙ ap (splice buffer 0) eb ∙ over buffer (packed n d) (size ∙ sym l) ∙ made _ _ _ (ap (λ (k : ℕ). eqb k 0) (sym e)), λ _. what-was-given kind n d buffer m (sym e))
 
 -- ---- a block read and written again
 
@@ -149,7 +163,7 @@ list-held count s from i h =
     let l = length-tabulate count (λ i. f64At s (from + 8 * i)) in
     rw (getD-tabulate count (λ i. f64At s (from + 8 * i)) i nan (omega arith)) (f64-fits s (from + 8 * i))
 
-filed-held : (n : ℕ) (s : List ℕ) → Machine (filedIn n s)
+filed-held : (n : ℕ) (s : List ℕ) → Representable (filedIn n s)
 unfolding filedIn conditionsAt
 filed-held n s = record {
   coefficients = list-held (3 * n) s (offsetOf s coefficients);

@@ -15,23 +15,25 @@ use Rattle.block.specs.Blend.{at}
 use Rattle.reader.specs.View.{readyJob, view}
 use Rattle.reader.specs.Reading.{refusalOf}
 use Rattle.records.specs.Record.{sealedOf}
-use Rattle.writer.specs.Written.{verdict, written}
+use Rattle.writer.specs.Packed.{packed}
+use Rattle.writer.specs.Written.{listsFit, verdict, written}
 
--- Numbers that the code's types hold: floats that fit binary64, a choice below 2^64. What a caller hands to the writer and what stands in a block are such.
+-- Numbers that the code's types hold: floats of binary64, a choice below 2^64. What stands in a block is such, and what a caller hands to the writer: its contract says so of
+-- what it writes.
 abbrev pub Binary64 : List Float → Type 0
 Binary64 l = (i : ℕ) → i < length l → T (fits binary64 (at l i))
 
-pub record Held (c : Conditions) : Type 0 where
+pub record ConditionsRepresentable (c : Conditions) : Type 0 where
   pub choice : c .choice < 2 ^ 64
   pub temperature : T (fits binary64 (c .temperature))
   pub pressure : T (fits binary64 (c .pressure))
   pub start : T (fits binary64 (c .start))
 
-pub record Machine (d : Numbers) : Type 0 where
+pub record Representable (d : Numbers) : Type 0 where
   pub coefficients : Binary64 (d .coefficients)
   pub interactions : Binary64 (d .interactions)
   pub fractions : Binary64 (d .fractions)
-  pub conditions : Held (d .conditions)
+  pub conditions : ConditionsRepresentable (d .conditions)
 
 -- "What the board's reader finds in a written block must be what was given"
 pub record Found (kind n : ℕ) (d : Numbers) (buffer : List ℕ) : Type 0 where
@@ -44,7 +46,7 @@ pub record Found (kind n : ℕ) (d : Numbers) (buffer : List ℕ) : Type 0 where
   pub not-refused : refusalOf (view kind n (written kind n d buffer) .task) ≡ 0
 
 abbrev pub WhatWasGiven : Type 0
-WhatWasGiven = (kind n : ℕ) (d : Numbers) (buffer : List ℕ) → Machine d → verdict kind n d (length buffer) ≡ 0 → Found kind n d buffer
+WhatWasGiven = (kind n : ℕ) (d : Numbers) (buffer : List ℕ) → Representable d → verdict kind n d (length buffer) ≡ 0 → Found kind n d buffer
 
 -- "the buffer is then unchanged"
 abbrev pub RefusedUnchanged : Type 0
@@ -63,7 +65,11 @@ pub record Again (kind n : ℕ) (block buffer : List ℕ) : Type 0 where
 abbrev pub ReadsTheSame : Type 0
 ReadsTheSame = (kind n : ℕ) (block buffer : List ℕ) → length buffer ≡ 640 → refusalOf (view kind n block .task) ≡ 0 → Again kind n block buffer
 
--- The writer refuses what stands in a block's parts exactly where the reader refuses the block, by the same number.
+-- "by the board's numbers and in its order": numbers in lists that fit N are refused exactly where the reader refuses the block made of them, by the same number.
+abbrev pub AsTheReader : Type 0
+AsTheReader = (kind n : ℕ) (d : Numbers) → listsFit n d ≡ true → Representable d → verdict kind n d 640 ≡ refusalOf (view kind n (packed n d) .task)
+
+-- The same of any block, wherever its parts stand: the writer refuses what stands in a block's parts exactly where the reader refuses the block, by the same number.
 abbrev pub SameVerdict : Type 0
 SameVerdict = (kind n : ℕ) (block : List ℕ) → pairsFit n block ≡ true → verdict kind n (filedIn n block) (length block) ≡ refusalOf (view kind n block .task)
 

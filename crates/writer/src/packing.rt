@@ -9,7 +9,7 @@ ghost use Rattle.buf.specs.Bytes.{splice, putF64};
 ghost use Rattle.block.specs.Pairs.{interactionsLength};
 ghost use Rattle.writer.specs.Packed.{filedBy, interactionsFrom, fractionsFrom, conditionsFrom, pairBytes, pairsBytes, floatBytes, conditionBytes, filled};
 ghost use Rattle.writer.specs.Written.{countsFit};
-ghost use Rattle.writer.specs.Laws.{Binary64, Held, Machine};
+ghost use Rattle.writer.specs.Laws.{Binary64, ConditionsRepresentable, Representable};
 use block::Conditions;
 
 fn interactions_size(n: u64) -> u64
@@ -80,7 +80,7 @@ fn put_floats(block: &mut [u8], at: usize, list: &[f64])
 
 fn put_conditions(block: &mut [u8], at: usize, c: Conditions)
     requires { ⌜ at + 32 ≤ length (now block) ⌝ }
-    ensures { λ _. ⌜ (now (block .exit) ≡ splice (now (block .entry)) at (conditionBytes c)) × (Held c) ⌝ }
+    ensures { λ _. ⌜ (now (block .exit) ≡ splice (now (block .entry)) at (conditionBytes c)) × (ConditionsRepresentable c) ⌝ }
 {
     buf::put_u64(block, at, c.choice);
     put_float(block, at + 8, c.temperature);
@@ -98,7 +98,7 @@ pub fn fill(
     block: &mut [u8],
 )
     requires { ⌜ (1 ≤ n) × (n ≤ 8) × (length (now block) ≡ 640) × (countsFit n (now coefficients) (now interactions) (now fractions) ≡ true) ⌝ }
-    ensures { λ _. ⌜ (now (block .exit) ≡ splice (now (block .entry)) 0 (filled n (filedBy (now (coefficients .entry)) (now (interactions .entry)) (now (fractions .entry)) c))) × (Machine (filedBy (now (coefficients .entry)) (now (interactions .entry)) (now (fractions .entry)) c)) ⌝ }
+    ensures { λ _. ⌜ (now (block .exit) ≡ splice (now (block .entry)) 0 (filled n (filedBy (now (coefficients .entry)) (now (interactions .entry)) (now (fractions .entry)) c))) × (Representable (filedBy (now (coefficients .entry)) (now (interactions .entry)) (now (fractions .entry)) c)) ⌝ }
 {
     put_pairs(n, block);
     put_floats(block, 16, coefficients);

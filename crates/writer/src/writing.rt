@@ -6,6 +6,7 @@ ghost use Rattle.reader.specs.View.{view as viewOf};
 ghost use Rattle.reader.specs.Reading.{refusalOf};
 ghost use Rattle.writer.specs.Packed.{filedBy};
 ghost use Rattle.writer.specs.Written.{countsFit, verdict, written};
+ghost use Rattle.writer.specs.Laws.{Found};
 use crate::packing::fill;
 use block::Conditions;
 use reader::Task;
@@ -46,7 +47,7 @@ pub fn write_block(
     c: Conditions,
     buffer: &mut [u8],
 ) -> u64
-    ensures { λ r. ⌜ (r ≡ verdict kind n (filedBy (now (coefficients .entry)) (now (interactions .entry)) (now (fractions .entry)) c) (length (now (buffer .entry)))) × (now (buffer .exit) ≡ written kind n (filedBy (now (coefficients .entry)) (now (interactions .entry)) (now (fractions .entry)) c) (now (buffer .entry))) ⌝ }
+    ensures { λ r. ⌜ (r ≡ verdict kind n (filedBy (now (coefficients .entry)) (now (interactions .entry)) (now (fractions .entry)) c) (length (now (buffer .entry)))) × (now (buffer .exit) ≡ written kind n (filedBy (now (coefficients .entry)) (now (interactions .entry)) (now (fractions .entry)) c) (now (buffer .entry))) × (r ≡ 0 → Found kind n (filedBy (now (coefficients .entry)) (now (interactions .entry)) (now (fractions .entry)) c) (now (buffer .entry))) ⌝ }
 {
     if !schedule::kind_fits(kind) {
         return 2;
