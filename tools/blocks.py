@@ -1,8 +1,9 @@
 """The proved writer of request blocks, for the scripts beside this file: `pr_write_block` of target/staticlib/libexports.a, which
-`rt staticlib exports` writes, made into a shared object with the C compiler."""
+`rt staticlib exports` writes, made into a shared object with the C compiler (`CC`, else `cc`) and GNU's or LLVM's linker."""
 import ctypes
 import os
 import pathlib
+import shlex
 import subprocess
 
 BLOCK = 640
@@ -17,7 +18,7 @@ REFUSALS = {
     13: "interaction not finite",
     14: "fraction not finite or with a minus sign",
     15: "temperature not finite and positive, or pressure or start not finite",
-    16: "choice, or maximum density not finite and positive",
+    16: "choice out of range, or maximum density not finite and positive",
     17: "the fractions do not add up to 1",
 }
 
@@ -30,37 +31,40 @@ class Refused(Exception):
         self.number = number
 
 
-def library():
+def writer():
     archive = pathlib.Path(__file__).resolve().parent.parent / "target" / "staticlib" / "libexports.a"
     if not archive.exists():
         raise OSError("%s is missing: `rt staticlib exports` at the project's root writes it" % archive)
     shared = archive.with_suffix(".so")
-    if not shared.exists() or shared.stat().st_mtime < archive.stat().st_mtime:
+    if not shared.exists() or shared.stat().st_mtime <= archive.stat().st_mtime:
         # under another name first, so that no one loads half of it
         made = shared.with_suffix(".so.%d" % os.getpid())
         whole = ["-Wl,--whole-archive", str(archive), "-Wl,--no-whole-archive"]
-        subprocess.run([os.environ.get("CC", "cc"), "-shared", "-o", str(made)] + whole, check=True)
+        subprocess.run(shlex.split(os.environ.get("CC", "cc")) + ["-shared", "-o", str(made)] + whole, check=True)
         made.replace(shared)
-    return ctypes.CDLL(str(shared))
+    try:
+        write = ctypes.CDLL(str(shared)).pr_write_block
+    except AttributeError:
+        raise OSError("%s has no pr_write_block: `rt staticlib exports` writes it anew" % archive) from None
+    write.restype = ctypes.c_uint64
+    return write
 
 
-_library = None
+_write = None
 
 
 def write_block(kind, n, coefficients, interactions, fractions, choice=0, temperature=0.0, pressure=0.0, start=0.0):
     """The 640 bytes of a block; raises `Refused`. Coefficients are critical temperature, critical pressure and acentric factor
     of each component, interactions k_ij by rows, i below j."""
-    global _library
-    _library = _library or library()
-    write = _library.pr_write_block
-    write.restype = ctypes.c_uint64
+    global _write
+    _write = _write or writer()
     block = (ctypes.c_uint8 * BLOCK)()
     words = [ctypes.c_uint64(kind), ctypes.c_uint64(n)]
     for values in (coefficients, interactions, fractions):
         # to C a slice is a pointer and a length
         words += [(ctypes.c_double * len(values))(*values), ctypes.c_size_t(len(values))]
     words += [ctypes.c_uint64(choice), ctypes.c_double(temperature), ctypes.c_double(pressure), ctypes.c_double(start)]
-    number = write(*words, block, ctypes.c_size_t(BLOCK))
+    number = _write(*words, block, ctypes.c_size_t(BLOCK))
     if number:
         raise Refused(number)
     return bytes(block)

@@ -7,7 +7,7 @@ mod evaluations;
 mod floats;
 mod jets;
 mod jobs;
-// the board's calls with their answers in the oracle's form, as trials/ declares them
+// the board's calls, whole answers and the writer, as trials/ declares them
 #[path = "../../trials/src/proved.rs"]
 mod proved;
 mod requests;

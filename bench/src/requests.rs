@@ -1,4 +1,4 @@
-//! The requests that jobs and turns are measured on: eight of each kind for N = 1, 2, 8, on one bottle.
+//! The requests that writes, jobs and turns are measured on: eight of each kind for N = 1, 2, 8, on one bottle.
 use crate::proved;
 use oracle::random::FLUIDS;
 use oracle::writer::Filing;

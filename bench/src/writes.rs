@@ -1,5 +1,5 @@
-//! The writer of request blocks against the oracle's: from the numbers of a request to its bytes, and to a refusal, for which
-//! all but the last check has passed.
+//! The writer of request blocks against the oracle's: from the numbers of a request to its bytes, and to a refusal by 15, after
+//! every check but 16.
 use crate::proved;
 use crate::requests;
 use crate::timing::{compare, Row};
@@ -22,7 +22,7 @@ fn row(what: &'static str, filing: &Filing, answer: u64) -> Row {
 }
 
 pub fn rows() -> Vec<Row> {
-    let written = [("write, kind 1, N = 1", 1, 1), ("write, kind 1, N = 2", 1, 2), ("write, kind 1, N = 8", 1, 8), ("write, kind 5, N = 8", 5, 8)];
+    let written = [("written, kind 1, N = 1", 1, 1), ("written, kind 1, N = 2", 1, 2), ("written, kind 1, N = 8", 1, 8), ("written, kind 5, N = 8", 5, 8)];
     let mut rows: Vec<Row> = written.map(|(what, kind, n)| row(what, &requests::filings(kind, n)[0], 0)).into();
     let mut refused = requests::filings(1, 8).swap_remove(0);
     refused.temperature = -1.0;

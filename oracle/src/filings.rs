@@ -135,19 +135,10 @@ fn resize(rng: &mut Rng, list: &mut Vec<f64>, length: usize) {
     }
 }
 
-/// The coefficients by 0, the interactions by 1, the fractions by 2.
-fn list(filing: &mut Filing, which: usize) -> &mut Vec<f64> {
-    match which {
-        0 => &mut filing.coefficients,
-        1 => &mut filing.interactions,
-        _ => &mut filing.fractions,
-    }
-}
-
 /// Lists that fit n components.
 fn refit(rng: &mut Rng, filing: &mut Filing, n: usize) {
     for (which, count) in counts(n).into_iter().enumerate() {
-        resize(rng, list(filing, which), count);
+        resize(rng, filing.list_mut(which), count);
     }
 }
 
@@ -187,9 +178,11 @@ fn damage_lists(rng: &mut Rng, filing: &mut Filing) {
         }
         // as many floats as there should be, some in the list after
         1 => {
-            let count = list(filing, which).len();
-            let moved = list(filing, which).split_off(count - count.min(1 + rng.below(3)));
-            let next = list(filing, (which + 1) % 3);
+            let count = filing.list_mut(which).len();
+            let moved = filing
+                .list_mut(which)
+                .split_off(count - count.min(1 + rng.below(3)));
+            let next = filing.list_mut((which + 1) % 3);
             if moved.is_empty() {
                 next.push(1.0);
             }
@@ -198,12 +191,12 @@ fn damage_lists(rng: &mut Rng, filing: &mut Filing) {
         2 | 3 => {
             for which in [which, (which + 1) % 3] {
                 let count = wrong_count(rng, n, which);
-                resize(rng, list(filing, which), count);
+                resize(rng, filing.list_mut(which), count);
             }
         }
         _ => {
             let count = wrong_count(rng, n, which);
-            resize(rng, list(filing, which), count);
+            resize(rng, filing.list_mut(which), count);
         }
     }
 }

@@ -31,6 +31,15 @@ fn words(floats: &[f64]) -> Vec<u64> {
 }
 
 impl Filing {
+    /// The coefficients by 0, the interactions by 1, the fractions by 2.
+    pub fn list_mut(&mut self, which: usize) -> &mut Vec<f64> {
+        match which {
+            0 => &mut self.coefficients,
+            1 => &mut self.interactions,
+            _ => &mut self.fractions,
+        }
+    }
+
     /// The words of the four parts in the block's order. The choice is no float and keeps its bits.
     fn parts(&self) -> [Vec<u64>; 4] {
         let mut conditions = vec![self.choice];

@@ -526,14 +526,6 @@ fn refusals_by_kind() {
     });
 }
 
-fn list(filing: &mut Filing, which: usize) -> &mut Vec<f64> {
-    match which {
-        0 => &mut filing.coefficients,
-        1 => &mut filing.interactions,
-        _ => &mut filing.fractions,
-    }
-}
-
 #[test]
 fn lengths_of_lists() {
     for (kind, n) in (1..=6).flat_map(|kind| (1..=8).map(move |n| (kind, n))) {
@@ -543,7 +535,7 @@ fn lengths_of_lists() {
             let far = [32, 256, 8192, 65536].map(|more| right + more);
             for count in (0..=2 * right + 3).chain(far) {
                 let mut filing = distinct(kind, n);
-                let numbers = list(&mut filing, which);
+                let numbers = filing.list_mut(which);
                 numbers.resize(count, 0.0);
                 let expected = if count == right { 0 } else { 11 };
                 assert_eq!(answer(&filing), expected, "{kind} {n} {which} {count}");
@@ -560,8 +552,8 @@ fn lengths_of_lists() {
         // as many floats as there should be, one of them in another list
         for (from, to) in [(0, 1), (0, 2), (1, 0), (1, 2), (2, 0), (2, 1)] {
             let mut filing = distinct(kind, n);
-            if let Some(moved) = list(&mut filing, from).pop() {
-                list(&mut filing, to).push(moved);
+            if let Some(moved) = filing.list_mut(from).pop() {
+                filing.list_mut(to).push(moved);
                 assert_eq!(answer(&filing), 11, "{kind} {n} {from} {to}");
             }
         }

@@ -9,7 +9,6 @@ use lib.Ieee.{nan}
 use borrow.Author.Tests.{ltb-true}
 use Rattle.float.specs.Ops.{f0}
 use Rattle.buf.specs.Bytes.{f64At}
-use Rattle.block.specs.declared.types.Numbers.{Numbers}
 use Rattle.block.specs.Pairs.{offsetOf, coefficients, interactions, fractions, conditions}
 use Rattle.block.specs.Numbers.{listAt, filedIn, fractionCount, firstOf, asRead, numbersOf, floatsAt, conditionsOf}
 use Rattle.block.proofs.Lists.{getD-tabulate, tabulate-same}

@@ -99,10 +99,12 @@ asRead kind n d = record {
 unfoldable pub numbersOf : (kind n : ℕ) → List ℕ → Numbers
 numbersOf kind n s = asRead kind n (filedIn n s)
 
--- ---- the same of one part, which begins at index at
+-- ---- what a job reads of one part, which begins at index at
 
+-- a row of 28: the count floats, then +0
 unfoldable pub floatsAt : ℕ → List ℕ → ℕ → List Float
 floatsAt count s at = tabulate 28 (λ i. cond (ltb i count) (f64At s (at + 8 * i)) f0)
 
+-- the conditions
 unfoldable pub conditionsOf : (kind : ℕ) → List ℕ → ℕ → Conditions
 conditionsOf kind s at = used kind (conditionsAt s at)

@@ -1,7 +1,6 @@
 // The functions that filing tools, bench/ and trials/ call, under C's names and with the contracts of what they call. A layer that is
 // measured adds its own here.
 ghost use mathlib.Core.Path.{_≡_};
-ghost use lib.ListN.{length};
 ghost use Rattle.float.specs.Root.{root};
 ghost use Rattle.float.specs.Ln.{lnOf};
 ghost use Rattle.jet.specs.Coefficients.{sumOf, productOf, quotientOf, rootOf, logarithmOf, cut};
@@ -12,8 +11,7 @@ ghost use Rattle.board_spec.specs.Board.{submitBoard, turnBoard, lookBoard};
 ghost use Rattle.board.specs.Answers.{numberOf as numberSaid, ticketOf, evaluationsOf, densityOf};
 ghost use Rattle.eos.specs.Cubic.{blendBy};
 ghost use Rattle.writer.specs.Packed.{filedBy};
-ghost use Rattle.writer.specs.Written.{verdict, written};
-ghost use Rattle.writer.specs.Laws.{Found};
+ghost use Rattle.writer.specs.Laws.{Answers};
 ghost use Rattle.exports.specs.Rows.{pressureRow, criticalityRow, stabilityRow};
 use block::Conditions;
 use board::Told;
@@ -258,7 +256,7 @@ pub extern "C" fn pr_write_block(
     start: f64,
     block: &mut [u8],
 ) -> u64
-    ensures { λ r. ⌜ (r ≡ verdict kind n (filedBy (now (coefficients .entry)) (now (interactions .entry)) (now (fractions .entry)) (record { choice = choice; temperature = temperature; pressure = pressure; start = start })) (length (now (block .entry)))) × (now (block .exit) ≡ written kind n (filedBy (now (coefficients .entry)) (now (interactions .entry)) (now (fractions .entry)) (record { choice = choice; temperature = temperature; pressure = pressure; start = start })) (now (block .entry))) × (r ≡ 0 → Found kind n (filedBy (now (coefficients .entry)) (now (interactions .entry)) (now (fractions .entry)) (record { choice = choice; temperature = temperature; pressure = pressure; start = start })) (now (block .entry))) ⌝ }
+    ensures { λ r. ⌜ Answers kind n (filedBy (now (coefficients .entry)) (now (interactions .entry)) (now (fractions .entry)) (record { choice = choice; temperature = temperature; pressure = pressure; start = start })) (now (block .entry)) r (now (block .exit)) ⌝ }
 {
     let c = Conditions {
         choice,

@@ -94,5 +94,6 @@ requested kind n size pairs d =
     (check pairs 11
     (checked kind n d))))
 
+-- the job of a block
 unfoldable pub view : (kind n : ℕ) → List ℕ → Job
 view kind n s = requested kind n (length s) (pairsFit n s) (numbersOf kind n s)

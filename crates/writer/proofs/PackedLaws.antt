@@ -21,7 +21,7 @@ use Rattle.block.specs.Blend.{at}
 use Rattle.block.proofs.Lists.{tabulate-ext}
 use Rattle.block.proofs.PairLaws.{both}
 use Rattle.block.proofs.Sizes.{product}
-use Rattle.writer.specs.Packed.{coefficientsFrom, interactionsFrom, fractionsFrom, conditionsFrom, packedEnd, pairBytes, pairsBytes, floatBytes, conditionBytes, filled, packed}
+use Rattle.writer.specs.Packed.{coefficientsFrom, interactionsFrom, fractionsFrom, conditionsFrom, packedEnd, pairBytes, pairsBytes, floatsBytes, conditionBytes, filled, packed}
 use Rattle.writer.specs.Written.{countsFit, listsFit}
 use Rattle.writer.specs.Laws.{Binary64, ConditionsRepresentable, Representable}
 
@@ -39,33 +39,33 @@ num-first k v s h = ap le (take-at (bytesOf k v) s k (length-bytesOf k v)) ∙ l
 
 -- ---- floats one after the other
 
-pub length-floats : (l : List Float) → length (floatBytes l) ≡ 8 * length l
-unfolding floatBytes
+pub length-floats : (l : List Float) → length (floatsBytes l) ≡ 8 * length l
+unfolding floatsBytes
 length-floats [] = refl
 length-floats (x ∷ l) =
     let r = length-floats l in
-    length-append (bytesOf 8 (toBits binary64 x)) (floatBytes l) ∙ rw (length-bytesOf, r) (omega arith)
+    length-append (bytesOf 8 (toBits binary64 x)) (floatsBytes l) ∙ rw (length-bytesOf, r) (omega arith)
 
 first-float : (x : Float) (s : List ℕ) → T (fits binary64 x) → f64At (bytesOf 8 (toBits binary64 x) ++ s) 0 ≡ x
 first-float x s h = ap (ofBits binary64) (num-first 8 (toBits binary64 x) s (toBits-lt binary64 x h)) ∙ ofBits-toBits binary64 x h
 
-float-at : (l : List Float) (s : List ℕ) (i : ℕ) → i < length l → Binary64 l → f64At (floatBytes l ++ s) (8 * i) ≡ at l i
-unfolding floatBytes
+float-at : (l : List Float) (s : List ℕ) (i : ℕ) → i < length l → Binary64 l → f64At (floatsBytes l ++ s) (8 * i) ≡ at l i
+unfolding floatsBytes
 float-at [] s i h b = absurd (omega arith)
-float-at (x ∷ l) s zero h b = ap (λ (w : List ℕ). f64At w 0) (append-assoc (bytesOf 8 (toBits binary64 x)) (floatBytes l) s) ∙ first-float x (floatBytes l ++ s) (b 0 h)
+float-at (x ∷ l) s zero h b = ap (λ (w : List ℕ). f64At w 0) (append-assoc (bytesOf 8 (toBits binary64 x)) (floatsBytes l) s) ∙ first-float x (floatsBytes l ++ s) (b 0 h)
 float-at (x ∷ l) s (suc i) h b =
     let next : 8 * suc i ≡ 8 + 8 * i = omega arith in
-    ap (f64At ((bytesOf 8 (toBits binary64 x) ++ floatBytes l) ++ s)) next
-    ∙ ap (λ (w : List ℕ). f64At w (8 + 8 * i)) (append-assoc (bytesOf 8 (toBits binary64 x)) (floatBytes l) s)
-    ∙ ap (ofBits binary64) (num-skip 8 (bytesOf 8 (toBits binary64 x)) (floatBytes l ++ s) 8 (8 * i) (length-bytesOf 8 (toBits binary64 x)))
+    ap (f64At ((bytesOf 8 (toBits binary64 x) ++ floatsBytes l) ++ s)) next
+    ∙ ap (λ (w : List ℕ). f64At w (8 + 8 * i)) (append-assoc (bytesOf 8 (toBits binary64 x)) (floatsBytes l) s)
+    ∙ ap (ofBits binary64) (num-skip 8 (bytesOf 8 (toBits binary64 x)) (floatsBytes l ++ s) 8 (8 * i) (length-bytesOf 8 (toBits binary64 x)))
     ∙ float-at l s i (omega arith) (λ k g. b (suc k) (omega arith))
 
 -- a list that stands behind the first m bytes
-list-read : (p s : List ℕ) (l : List Float) (count m : ℕ) → length p ≡ m → length l ≡ count → Binary64 l → listAt count (p ++ (floatBytes l ++ s)) m ≡ l
+list-read : (p s : List ℕ) (l : List Float) (count m : ℕ) → length p ≡ m → length l ≡ count → Binary64 l → listAt count (p ++ (floatsBytes l ++ s)) m ≡ l
 unfolding listAt
 list-read p s l count m e c b =
-    sym (tabulate-ext count (λ i. f64At (p ++ (floatBytes l ++ s)) (m + 8 * i)) l nan c
-    (λ i h. sym (ap (ofBits binary64) (num-skip 8 p (floatBytes l ++ s) m (8 * i) e) ∙ float-at l s i (omega arith) b)))
+    sym (tabulate-ext count (λ i. f64At (p ++ (floatsBytes l ++ s)) (m + 8 * i)) l nan c
+    (λ i h. sym (ap (ofBits binary64) (num-skip 8 p (floatsBytes l ++ s) m (8 * i) e) ∙ float-at l s i (omega arith) b)))
 
 -- ---- the conditions
 
@@ -81,7 +81,7 @@ conditions-read p s c m e h = rw (choice-at, float-there 0 (omega arith), float-
     three = c .temperature ∷ c .pressure ∷ c .start ∷ []
 
     whole : List ℕ
-    whole = p ++ ((bytesOf 8 (c .choice) ++ floatBytes three) ++ s)
+    whole = p ++ ((bytesOf 8 (c .choice) ++ floatsBytes three) ++ s)
 
     held : Binary64 three
     held zero g = h .temperature
@@ -89,8 +89,8 @@ conditions-read p s c m e h = rw (choice-at, float-there 0 (omega arith), float-
     held (suc (suc zero)) g = h .start
     held (suc (suc (suc i))) g = absurd (omega arith)
 
-    spread : whole ≡ p ++ (bytesOf 8 (c .choice) ++ (floatBytes three ++ s))
-    spread = ap (λ (w : List ℕ). p ++ w) (append-assoc (bytesOf 8 (c .choice)) (floatBytes three) s)
+    spread : whole ≡ p ++ (bytesOf 8 (c .choice) ++ (floatsBytes three ++ s))
+    spread = ap (λ (w : List ℕ). p ++ w) (append-assoc (bytesOf 8 (c .choice)) (floatsBytes three) s)
 
     choice-at : u64At whole m ≡ c .choice
     choice-at =
@@ -154,13 +154,13 @@ even (suc m) =
     rw less (omega arith)
 
 module _ (n : ℕ) (d : Numbers) (fit : listsFit n d ≡ true) where
-  pub coefficients-bytes : length (floatBytes (d .coefficients)) ≡ coefficientsLength n
+  pub coefficients-bytes : length (floatsBytes (d .coefficients)) ≡ coefficientsLength n
   coefficients-bytes = length-floats (d .coefficients) ∙ rw (lengths-fit n d fit .0) (omega arith)
 
-  pub interactions-bytes : length (floatBytes (d .interactions)) ≡ interactionsLength n
+  pub interactions-bytes : length (floatsBytes (d .interactions)) ≡ interactionsLength n
   interactions-bytes = length-floats (d .interactions) ∙ rw (lengths-fit n d fit .1 .0) (even n)
 
-  pub fractions-bytes : length (floatBytes (d .fractions)) ≡ fractionsLength n
+  pub fractions-bytes : length (floatsBytes (d .fractions)) ≡ fractionsLength n
   fractions-bytes = length-floats (d .fractions) ∙ rw (lengths-fit n d fit .1 .1)
 
   pub length-filled : length (filled n d) ≡ packedEnd n
@@ -172,7 +172,7 @@ module _ (n : ℕ) (d : Numbers) (fit : listsFit n d ≡ true) where
   length-packed h = let p = product n h in length-append (filled n d) _ ∙ rw (length-filled, length-zeros) (omega arith)
 
   -- the parts one after the other, with what is behind each
-  pub spread : packed n d ≡ pairsBytes n ++ (floatBytes (d .coefficients) ++ (floatBytes (d .interactions) ++ (floatBytes (d .fractions) ++ (conditionBytes (d .conditions) ++ zeros (640 - packedEnd n)))))
+  pub spread : packed n d ≡ pairsBytes n ++ (floatsBytes (d .coefficients) ++ (floatsBytes (d .interactions) ++ (floatsBytes (d .fractions) ++ (conditionBytes (d .conditions) ++ zeros (640 - packedEnd n)))))
   unfolding packed filled
   spread = simp append-assoc
 
@@ -243,13 +243,13 @@ unfolding filedIn
 numbers-read n d s fit m p e = rw (p .offset-0, p .offset-1, p .offset-2, p .offset-3, e, spread n d fit, list-0, list-1, list-2, conditions-3)
   where
     a : List ℕ
-    a = floatBytes (d .coefficients)
+    a = floatsBytes (d .coefficients)
 
     b : List ℕ
-    b = floatBytes (d .interactions)
+    b = floatsBytes (d .interactions)
 
     c : List ℕ
-    c = floatBytes (d .fractions)
+    c = floatsBytes (d .fractions)
 
     w : List ℕ
     w = conditionBytes (d .conditions)

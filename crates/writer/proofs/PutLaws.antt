@@ -17,7 +17,7 @@ use Rattle.block.specs.declared.types.Numbers.{Numbers}
 use Rattle.block.specs.Pairs.{interactionsLength}
 use Rattle.block.specs.Blend.{at}
 use Rattle.block.proofs.Sizes.{product}
-use Rattle.writer.specs.Packed.{interactionsFrom, fractionsFrom, conditionsFrom, pairBytes, pairsBytes, floatBytes, conditionBytes, filled}
+use Rattle.writer.specs.Packed.{interactionsFrom, fractionsFrom, conditionsFrom, pairBytes, pairsBytes, floatsBytes, conditionBytes, filled}
 use Rattle.writer.specs.Written.{listsFit}
 use Rattle.writer.specs.Laws.{Binary64}
 use Rattle.writer.proofs.PackedLaws.{length-pair, length-pairs, length-floats, coefficients-bytes, interactions-bytes, fractions-bytes}
@@ -41,18 +41,18 @@ pairs-put n s s₁ s₂ s₃ s₄ o₁ l₁ o₂ o₃ f₁ g₁ f₂ f₃ e₁ e
 
 -- the next float of the list
 pub float-step : (s : List ℕ) (l : List Float) (from i : ℕ) (x : Float) → i < length l → x ≡ at l i
-    → splice s (from + 8 * i) (floatBytes (drop i l)) ≡ splice (putF64 s (from + 8 * i) x) (from + 8 * (i + 1)) (floatBytes (drop (i + 1) l))
-unfolding floatBytes putNum
+    → splice s (from + 8 * i) (floatsBytes (drop i l)) ≡ splice (putF64 s (from + 8 * i) x) (from + 8 * (i + 1)) (floatsBytes (drop (i + 1) l))
+unfolding floatsBytes putNum
 float-step s l from i x h e =
     let next : suc i ≡ i + 1 = omega arith in
     let place : from + 8 * i + 8 ≡ from + 8 * (i + 1) = omega arith in
-    ap (λ (t : List Float). splice s (from + 8 * i) (floatBytes t)) (drop-cons l i nan h)
-    ∙ splice-append (bytesOf 8 (toBits binary64 (at l i))) (floatBytes (drop (suc i) l)) s (from + 8 * i)
+    ap (λ (t : List Float). splice s (from + 8 * i) (floatsBytes t)) (drop-cons l i nan h)
+    ∙ splice-append (bytesOf 8 (toBits binary64 (at l i))) (floatsBytes (drop (suc i) l)) s (from + 8 * i)
     ∙ rw (length-bytesOf, place, next, e)
 
-pub floats-put : (s w : List ℕ) (l : List Float) (from i : ℕ) → length l ≤ i → splice s (from + 8 * i) (floatBytes (drop i l)) ≡ w → s ≡ w
-unfolding floatBytes
-floats-put s w l from i h e = sym (splice-nil s (from + 8 * i)) ∙ ap (λ (t : List Float). splice s (from + 8 * i) (floatBytes t)) (sym (drop-of-length-le l h)) ∙ e
+pub floats-put : (s w : List ℕ) (l : List Float) (from i : ℕ) → length l ≤ i → splice s (from + 8 * i) (floatsBytes (drop i l)) ≡ w → s ≡ w
+unfolding floatsBytes
+floats-put s w l from i h e = sym (splice-nil s (from + 8 * i)) ∙ ap (λ (t : List Float). splice s (from + 8 * i) (floatsBytes t)) (sym (drop-of-length-le l h)) ∙ e
 
 -- those before i are of binary64
 abbrev pub Before : List Float → ℕ → Type 0
@@ -68,14 +68,14 @@ before-all l i h b k g = b k (omega arith)
 
 pub conditions-put : (s s₁ s₂ s₃ s₄ : List ℕ) (i : ℕ) (c : Conditions) → s₁ ≡ putU64 s i (c .choice) → s₂ ≡ putF64 s₁ (i + 8) (c .temperature) → s₃ ≡ putF64 s₂ (i + 16) (c .pressure)
     → s₄ ≡ putF64 s₃ (i + 24) (c .start) → s₄ ≡ splice s i (conditionBytes c)
-unfolding conditionBytes floatBytes putNum
+unfolding conditionBytes floatsBytes putNum
 conditions-put s s₁ s₂ s₃ s₄ i c e₁ e₂ e₃ e₄ =
     let second : i + 8 + 8 ≡ i + 16 = omega arith in
     let third : i + 16 + 8 ≡ i + 24 = omega arith in
     rw (e₄, e₃, e₂, e₁) (sym (simp (splice-append, length-bytesOf, splice-nil, second, third)))
 
 pub filled-put : (n : ℕ) (d : Numbers) (s s₁ s₂ s₃ s₄ s₅ : List ℕ) (o₁ o₂ o₃ : ℕ) → listsFit n d ≡ true → o₁ ≡ interactionsFrom n → o₂ ≡ fractionsFrom n → o₃ ≡ conditionsFrom n
-    → s₁ ≡ splice s 0 (pairsBytes n) → s₂ ≡ splice s₁ 16 (floatBytes (d .coefficients)) → s₃ ≡ splice s₂ o₁ (floatBytes (d .interactions)) → s₄ ≡ splice s₃ o₂ (floatBytes (d .fractions))
+    → s₁ ≡ splice s 0 (pairsBytes n) → s₂ ≡ splice s₁ 16 (floatsBytes (d .coefficients)) → s₃ ≡ splice s₂ o₁ (floatsBytes (d .interactions)) → s₄ ≡ splice s₃ o₂ (floatsBytes (d .fractions))
     → s₅ ≡ splice s₄ o₃ (conditionBytes (d .conditions)) → s₅ ≡ splice s 0 (filled n d)
 unfolding filled
 filled-put n d s s₁ s₂ s₃ s₄ s₅ o₁ o₂ o₃ fit f₁ f₂ f₃ e₁ e₂ e₃ e₄ e₅ =

@@ -27,7 +27,7 @@ use Rattle.reader.proofs.ViewLaws.{Passed, requested-passed, ready-no-number}
 use Rattle.records.proofs.RecordLaws.{sealed-alike}
 use Rattle.writer.specs.Packed.{filled, packed}
 use Rattle.writer.specs.Written.{countsFit, listsFit, verdict, written}
-use Rattle.writer.specs.Laws.{Binary64, Representable, Found, WhatWasGiven, RefusedUnchanged, ReadsTheSame, AsTheReader, SameVerdict, SealedByNumbers}
+use Rattle.writer.specs.Laws.{Binary64, Representable, Answers, Ordered, WhatWasGiven, RefusedUnchanged, ReadsTheSame, AsTheReader, SameVerdict, SealedByNumbers}
 use Rattle.writer.proofs.PackedLaws.{same, length-filled, length-packed, packed-fits, filed-packed}
 
 -- ---- a packed block is read as the numbers that it was made of
@@ -51,6 +51,17 @@ as-the-reader kind n d f m = go (kindFits kind) refl (countFits n) refl
     go false k t c = rw k
     go true k false c = rw (k, c)
     go true k true c = verdict-data kind n d k c f ∙ ap (λ (job : Job). refusalOf (job .task)) (sym (view-packed kind n d k c f m))
+
+-- ---- what comes before the data
+
+pub ordered : Ordered
+unfolding verdict refusalOf refused
+ordered kind n d size = record {
+  refused-2 = λ k. rw k;
+  refused-3 = λ k c. rw (k, c);
+  refused-8 = λ k c l. rw (k, c, ne-eqb size 640 l);
+  refused-11 = λ k c l f. rw (k, c, eq-eqb size 640 l, f);
+}
 
 -- the buffer on a refusal, and where there is none
 kept : (t : Bool) (u v : List ℕ) → t ≡ false → v ≡ cond t u v
@@ -106,29 +117,23 @@ over-zeros n d s block h f es eb =
     eb ∙ ap (λ (l : List ℕ). splice l 0 (filled n d)) es ∙ splice-start (zeros 640) (filled n d) room ∙ ap (λ (l : List ℕ). filled n d ++ l) (drop-zeros 640 (length (filled n d)) ∙ ap (λ (k : ℕ). zeros (640 - k)) size)
 
 module _ (kind n : ℕ) (d : Numbers) (buffer : List ℕ) where
-  -- what is answered and left on a refusal, and where there is none
-  abbrev pub Answers : (number : ℕ) (bytes : List ℕ) → Type 0
-  Answers number bytes = (number ≡ verdict kind n d (length buffer)) × (bytes ≡ written kind n d buffer) × (number ≡ 0 → Found kind n d buffer)
-
-  refuses : (number : ℕ) → suc number ≡ verdict kind n d (length buffer) → Answers (suc number) buffer
+  refuses : (number : ℕ) → verdict kind n d (length buffer) ≡ suc number → Answers kind n d buffer (suc number) buffer
   unfolding written
-  refuses number e = let not-zero : suc number ≡ 0 → ⊥ = λ z. omega arith in (e, kept _ _ _ (ap (λ (k : ℕ). eqb k 0) (sym e) ∙ ne-eqb (suc number) 0 not-zero), λ z. absurd (not-zero z))
+  refuses number e =
+      let not-zero : suc number ≡ 0 → ⊥ = λ z. omega arith in
+      (sym e, kept _ _ _ (ap (λ (k : ℕ). eqb k 0) e ∙ ne-eqb (suc number) 0 not-zero), λ z. absurd (not-zero z))
 
-  pub refuses-2 : kindFits kind ≡ false → Answers 2 buffer
-  unfolding verdict refusalOf refused
-  refuses-2 k = refuses 1 (rw k)
+  pub refuses-2 : kindFits kind ≡ false → Answers kind n d buffer 2 buffer
+  refuses-2 k = refuses 1 (ordered kind n d (length buffer) .refused-2 k)
 
-  pub refuses-3 : kindFits kind ≡ true → countFits n ≡ false → Answers 3 buffer
-  unfolding verdict refusalOf refused
-  refuses-3 k c = refuses 2 (rw (k, c))
+  pub refuses-3 : kindFits kind ≡ true → countFits n ≡ false → Answers kind n d buffer 3 buffer
+  refuses-3 k c = refuses 2 (ordered kind n d (length buffer) .refused-3 k c)
 
-  pub refuses-8 : kindFits kind ≡ true → countFits n ≡ true → (length buffer ≡ 640 → ⊥) → Answers 8 buffer
-  unfolding verdict refusalOf refused
-  refuses-8 k c l = refuses 7 (rw (k, c, ne-eqb _ _ l))
+  pub refuses-8 : kindFits kind ≡ true → countFits n ≡ true → (length buffer ≡ 640 → ⊥) → Answers kind n d buffer 8 buffer
+  refuses-8 k c l = refuses 7 (ordered kind n d (length buffer) .refused-8 k c l)
 
-  pub refuses-11 : kindFits kind ≡ true → countFits n ≡ true → length buffer ≡ 640 → listsFit n d ≡ false → Answers 11 buffer
-  unfolding verdict refusalOf refused
-  refuses-11 k c l f = refuses 10 (rw (k, c, eq-eqb _ _ l, f))
+  pub refuses-11 : kindFits kind ≡ true → countFits n ≡ true → length buffer ≡ 640 → listsFit n d ≡ false → Answers kind n d buffer 11 buffer
+  refuses-11 k c l f = refuses 10 (ordered kind n d (length buffer) .refused-11 k c l f)
 
   -- the reader's number is the verdict
   numbered : (number : ℕ) (block : List ℕ) → length buffer ≡ 640 → listsFit n d ≡ true → Representable d → block ≡ packed n d → number ≡ refusalOf (view kind n block .task)
@@ -137,13 +142,13 @@ module _ (kind n : ℕ) (d : Numbers) (buffer : List ℕ) where
 
   -- and a refusal where it is not 0
   pub refuses-data : (number : ℕ) (block : List ℕ) → length buffer ≡ 640 → listsFit n d ≡ true → Representable d → block ≡ packed n d
-      → number ≡ refusalOf (view kind n block .task) → (number ≡ 0 → ⊥) → Answers number buffer
+      → number ≡ refusalOf (view kind n block .task) → (number ≡ 0 → ⊥) → Answers kind n d buffer number buffer
   unfolding written
   refuses-data number block l f m eb en z = let e = numbered number block l f m eb en in (e, kept _ _ _ (ap (λ (k : ℕ). eqb k 0) (sym e) ∙ ne-eqb number 0 z), λ q. absurd (z q))
 
   -- else the block
   pub writes : (number : ℕ) (block bytes : List ℕ) → countFits n ≡ true → length buffer ≡ 640 → listsFit n d ≡ true → Representable d → block ≡ packed n d
-      → number ≡ refusalOf (view kind n block .task) → number ≡ 0 → bytes ≡ splice buffer 0 block → Answers 0 bytes
+      → number ≡ refusalOf (view kind n block .task) → number ≡ 0 → bytes ≡ splice buffer 0 block → Answers kind n d buffer 0 bytes
   unfolding written
   writes number block bytes c l f m eb en z ew =
       let e : 0 ≡ verdict kind n d (length buffer) = sym z ∙ numbered number block l f m eb en in

@@ -2,11 +2,12 @@
 -- a NaN that no kind reads is written as 7FF8000000000000 whatever its pattern was. Statements only; proofs/WriterLaws.antt proves them.
 use mathlib.Core.Path.{_≡_}
 use Prim.Native.Nat.{ℕ, _^_, _<_}
-use mathlib.Core.Bool.{true}
+use mathlib.Core.Bool.{true, false}
 use mathlib.Core.List.{List}
 use lib.ListN.{length}
 use lib.Dec.{T}
 use lib.Ieee.{Float, binary64, fits}
+use Rattle.schedule.specs.Spans.{kindFits, countFits}
 use Rattle.block.specs.declared.types.Conditions.{Conditions}
 use Rattle.block.specs.declared.types.Numbers.{Numbers}
 use Rattle.block.specs.Pairs.{pairsFit}
@@ -48,6 +49,10 @@ pub record Found (kind n : ℕ) (d : Numbers) (buffer : List ℕ) : Type 0 where
 abbrev pub WhatWasGiven : Type 0
 WhatWasGiven = (kind n : ℕ) (d : Numbers) (buffer : List ℕ) → Representable d → verdict kind n d (length buffer) ≡ 0 → Found kind n d buffer
 
+-- what the writer answers, what it leaves in the buffer, and what is then found there
+abbrev pub Answers : (kind n : ℕ) (d : Numbers) (buffer : List ℕ) (number : ℕ) (bytes : List ℕ) → Type 0
+Answers kind n d buffer number bytes = (number ≡ verdict kind n d (length buffer)) × (bytes ≡ written kind n d buffer) × (number ≡ 0 → Found kind n d buffer)
+
 -- "the buffer is then unchanged"
 abbrev pub RefusedUnchanged : Type 0
 RefusedUnchanged = (kind n : ℕ) (d : Numbers) (buffer : List ℕ) → (verdict kind n d (length buffer) ≡ 0 → ⊥) → written kind n d buffer ≡ buffer
@@ -65,14 +70,24 @@ pub record Again (kind n : ℕ) (block buffer : List ℕ) : Type 0 where
 abbrev pub ReadsTheSame : Type 0
 ReadsTheSame = (kind n : ℕ) (block buffer : List ℕ) → length buffer ≡ 640 → refusalOf (view kind n block .task) ≡ 0 → Again kind n block buffer
 
--- "by the board's numbers and in its order": numbers in lists that fit N are refused exactly where the reader refuses the block made of them, by the same number.
+-- "by the board's numbers and in its order: 2, 3, 8 for a buffer of another length, .. 11 also for lists of a length that doesn't fit N", whatever comes after
+pub record InOrder (kind n : ℕ) (d : Numbers) (size : ℕ) : Type 0 where
+  pub refused-2 : kindFits kind ≡ false → verdict kind n d size ≡ 2
+  pub refused-3 : kindFits kind ≡ true → countFits n ≡ false → verdict kind n d size ≡ 3
+  pub refused-8 : kindFits kind ≡ true → countFits n ≡ true → (size ≡ 640 → ⊥) → verdict kind n d size ≡ 8
+  pub refused-11 : kindFits kind ≡ true → countFits n ≡ true → size ≡ 640 → listsFit n d ≡ false → verdict kind n d size ≡ 11
+
+abbrev pub Ordered : Type 0
+Ordered = (kind n : ℕ) (d : Numbers) (size : ℕ) → InOrder kind n d size
+
+-- and "then the data refusals": numbers in lists that fit N are refused exactly where the reader refuses the block made of them, by the same number.
 abbrev pub AsTheReader : Type 0
 AsTheReader = (kind n : ℕ) (d : Numbers) → listsFit n d ≡ true → Representable d → verdict kind n d 640 ≡ refusalOf (view kind n (packed n d) .task)
 
--- The same of any block, wherever its parts stand: the writer refuses what stands in a block's parts exactly where the reader refuses the block, by the same number.
+-- The same of any block whose pairs fit, wherever its parts stand: the writer refuses what stands in them exactly where the reader refuses the block, by the same number.
 abbrev pub SameVerdict : Type 0
 SameVerdict = (kind n : ℕ) (block : List ℕ) → pairsFit n block ≡ true → verdict kind n (filedIn n block) (length block) ≡ refusalOf (view kind n block .task)
 
--- Blocks with the same numbers where the kind reads them have the same sealed bytes, wherever their parts stand.
+-- Blocks of one length whose pairs fit, with the same numbers where the kind reads them, have the same sealed bytes, wherever their parts stand.
 abbrev pub SealedByNumbers : Type 0
 SealedByNumbers = (kind n : ℕ) (s t : List ℕ) → length s ≡ length t → pairsFit n s ≡ true → pairsFit n t ≡ true → numbersOf kind n s ≡ numbersOf kind n t → sealedOf kind n s ≡ sealedOf kind n t

@@ -1,10 +1,11 @@
 -- The block that the writer makes of the numbers filed: "the parts packed from 16 and zeros after them". Definitions only.
 use Prim.Native.Nat.{ℕ, _+_, _-_}
 use mathlib.Core.List.{List, [], _∷_, _++_}
-use lib.Ieee.{Float, binary64, toBits}
+use lib.Ieee.{Float}
 use Rattle.buf.specs.Bytes.{bytesOf, zeros}
 use Rattle.block.specs.declared.types.Conditions.{Conditions}
 use Rattle.block.specs.declared.types.Numbers.{Numbers}
+use Rattle.records.specs.Record.{floatBytes}
 use Rattle.block.specs.Pairs.{coefficientsLength, interactionsLength, fractionsLength, conditionsLength}
 
 -- the numbers filed: three lists of any length and the conditions
@@ -39,18 +40,18 @@ pairsBytes n =
     ++ (pairBytes (interactionsFrom n) (interactionsLength n)
     ++ (pairBytes (fractionsFrom n) (fractionsLength n) ++ pairBytes (conditionsFrom n) conditionsLength))
 
--- floats one after the other, each by its bits; "All NaNs count as one value" and have one pattern here
-unfoldable pub floatBytes : List Float → List ℕ
-floatBytes [] = []
-floatBytes (x ∷ xs) = bytesOf 8 (toBits binary64 x) ++ floatBytes xs
+-- floats one after the other
+unfoldable pub floatsBytes : List Float → List ℕ
+floatsBytes [] = []
+floatsBytes (x ∷ xs) = floatBytes x ++ floatsBytes xs
 
 -- "conditions (32: choice u64, temperature, pressure, start)"
 unfoldable pub conditionBytes : Conditions → List ℕ
-conditionBytes c = bytesOf 8 (c .choice) ++ floatBytes (c .temperature ∷ c .pressure ∷ c .start ∷ [])
+conditionBytes c = bytesOf 8 (c .choice) ++ floatsBytes (c .temperature ∷ c .pressure ∷ c .start ∷ [])
 
 -- the pairs and the four parts
 unfoldable pub filled : (n : ℕ) → Numbers → List ℕ
-filled n d = pairsBytes n ++ (floatBytes (d .coefficients) ++ (floatBytes (d .interactions) ++ (floatBytes (d .fractions) ++ conditionBytes (d .conditions))))
+filled n d = pairsBytes n ++ (floatsBytes (d .coefficients) ++ (floatsBytes (d .interactions) ++ (floatsBytes (d .fractions) ++ conditionBytes (d .conditions))))
 
 -- "and zeros after them"
 unfoldable pub packed : (n : ℕ) → Numbers → List ℕ

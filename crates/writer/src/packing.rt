@@ -7,7 +7,7 @@ ghost use lib.Dec.{T};
 ghost use lib.Ieee.{binary64, fits};
 ghost use Rattle.buf.specs.Bytes.{splice, putF64};
 ghost use Rattle.block.specs.Pairs.{interactionsLength};
-ghost use Rattle.writer.specs.Packed.{filedBy, interactionsFrom, fractionsFrom, conditionsFrom, pairBytes, pairsBytes, floatBytes, conditionBytes, filled};
+ghost use Rattle.writer.specs.Packed.{filedBy, interactionsFrom, fractionsFrom, conditionsFrom, pairBytes, pairsBytes, floatsBytes, conditionBytes, filled};
 ghost use Rattle.writer.specs.Written.{countsFit};
 ghost use Rattle.writer.specs.Laws.{Binary64, ConditionsRepresentable, Representable};
 use block::Conditions;
@@ -69,7 +69,7 @@ fn put_float(block: &mut [u8], at: usize, x: f64)
 
 fn put_floats(block: &mut [u8], at: usize, list: &[f64])
     requires { ⌜ at + 8 * length (now list) ≤ length (now block) ⌝ }
-    ensures { λ _. ⌜ (now (block .exit) ≡ splice (now (block .entry)) at (floatBytes (now (list .entry)))) × (Binary64 (now (list .entry))) ⌝ }
+    ensures { λ _. ⌜ (now (block .exit) ≡ splice (now (block .entry)) at (floatsBytes (now (list .entry)))) × (Binary64 (now (list .entry))) ⌝ }
 {
     let mut i: usize = 0;
     while i < list.len() {

@@ -1,12 +1,11 @@
 // A request's numbers checked by the board's reader and written into a buffer, or the number of the first refusal and the buffer as it was.
 ghost use mathlib.Core.Path.{_≡_};
 ghost use Prim.Native.Nat.{_≤_};
-ghost use lib.ListN.{length};
 ghost use Rattle.reader.specs.View.{view as viewOf};
 ghost use Rattle.reader.specs.Reading.{refusalOf};
 ghost use Rattle.writer.specs.Packed.{filedBy};
-ghost use Rattle.writer.specs.Written.{countsFit, verdict, written};
-ghost use Rattle.writer.specs.Laws.{Found};
+ghost use Rattle.writer.specs.Written.{countsFit};
+ghost use Rattle.writer.specs.Laws.{Answers};
 use crate::packing::fill;
 use block::Conditions;
 use reader::Task;
@@ -47,7 +46,7 @@ pub fn write_block(
     c: Conditions,
     buffer: &mut [u8],
 ) -> u64
-    ensures { λ r. ⌜ (r ≡ verdict kind n (filedBy (now (coefficients .entry)) (now (interactions .entry)) (now (fractions .entry)) c) (length (now (buffer .entry)))) × (now (buffer .exit) ≡ written kind n (filedBy (now (coefficients .entry)) (now (interactions .entry)) (now (fractions .entry)) c) (now (buffer .entry))) × (r ≡ 0 → Found kind n (filedBy (now (coefficients .entry)) (now (interactions .entry)) (now (fractions .entry)) c) (now (buffer .entry))) ⌝ }
+    ensures { λ r. ⌜ Answers kind n (filedBy (now (coefficients .entry)) (now (interactions .entry)) (now (fractions .entry)) c) (now (buffer .entry)) r (now (buffer .exit)) ⌝ }
 {
     if !schedule::kind_fits(kind) {
         return 2;

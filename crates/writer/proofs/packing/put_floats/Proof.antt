@@ -8,13 +8,13 @@ use borrow.Author.Needs.{needs}
 use lib.ListN.{length, drop}
 use Rattle.buf.specs.Bytes.{splice}
 use Rattle.buf.proofs.Laws.{length-putNum}
-use Rattle.writer.specs.Packed.{floatBytes}
+use Rattle.writer.specs.Packed.{floatsBytes}
 use Rattle.writer.proofs.PutLaws.{Before, float-step, floats-put, before-next, before-all}
 use Rattle.writer.proofs.packing.put_floats.Statement.{statement}
 use Rattle.writer.proofs.packing.put_floats.Tie as tie
 
 abbrev Inv-loop : tie.InvT-loop
-Inv-loop block₀ at list i₀ block i = (i ≤ length list) × ((splice block (at + 8 * i) (floatBytes (drop i list)) ≡ splice block₀ at (floatBytes list)) × ((length block ≡ length block₀) × Before list i))
+Inv-loop block₀ at list i₀ block i = (i ≤ length list) × ((splice block (at + 8 * i) (floatsBytes (drop i list)) ≡ splice block₀ at (floatsBytes list)) × ((length block ≡ length block₀) × Before list i))
 
 abbrev μ-loop : tie.MeasureT-loop
 μ-loop block₀ at list i₀ block i = length list - i
@@ -50,7 +50,7 @@ loop-again c =
     let E = c .before .before .put-float .ensures in (
       omega arith,
       (
-        ap (λ (s : List ℕ). splice s (A .at + 8 * (L .i + 1)) (floatBytes (drop (L .i + 1) (A .list .now)))) (E .0) ∙ sym (float-step (L .block) (A .list .now) (A .at) (L .i) _ (omega arith) refl) ∙ L .inv .1 .0,
+        ap (λ (s : List ℕ). splice s (A .at + 8 * (L .i + 1)) (floatsBytes (drop (L .i + 1) (A .list .now)))) (E .0) ∙ sym (float-step (L .block) (A .list .now) (A .at) (L .i) _ (omega arith) refl) ∙ L .inv .1 .0,
         (ap length (E .0) ∙ length-putNum 8 (L .block) _ _ ∙ L .inv .1 .1 .0, before-next (A .list .now) (L .i) _ refl (E .1) (L .inv .1 .1 .1)),
       ),
     )
