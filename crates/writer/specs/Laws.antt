@@ -1,5 +1,5 @@
 -- What holds of written blocks. Numbers are the same where they are the same values: every NaN is one value, so two blocks may hold the same numbers in other bytes, and
--- a NaN that no kind reads is written as 7FF8000000000000 whatever its pattern was. Statements only; proofs/WriterLaws.antt proves them.
+-- a NaN among the numbers that the kind does not read is written as 7FF8000000000000 whatever its pattern was. Statements only; proofs/WriterLaws.antt proves them.
 use mathlib.Core.Path.{_≡_}
 use Prim.Native.Nat.{ℕ, _^_, _<_}
 use mathlib.Core.Bool.{true, false}
@@ -19,8 +19,8 @@ use Rattle.records.specs.Record.{sealedOf}
 use Rattle.writer.specs.Packed.{packed}
 use Rattle.writer.specs.Written.{listsFit, verdict, written}
 
--- Numbers that the code's types hold: floats of binary64, a choice below 2^64. What stands in a block is such, and what a caller hands to the writer: its contract says so of
--- what it writes.
+-- Numbers that the code's types hold: floats of binary64, a choice below 2^64. What stands in a block is such, and what a caller hands to the writer, whose contract
+-- therefore asks for none of it.
 abbrev pub Binary64 : List Float → Type 0
 Binary64 l = (i : ℕ) → i < length l → T (fits binary64 (at l i))
 
