@@ -1,7 +1,9 @@
-// Links target/staticlib/libexports.a, which `rt staticlib exports` writes.
+// Links libexports.a and libgateway.a of target/staticlib, which `rt staticlib` writes.
 fn main() {
     let root = std::path::Path::new(env!("CARGO_MANIFEST_DIR")).parent().unwrap().join("target/staticlib");
     println!("cargo:rustc-link-search=native={}", root.display());
-    println!("cargo:rustc-link-lib=static=exports");
-    println!("cargo:rerun-if-changed={}", root.join("libexports.a").display());
+    for name in ["exports", "gateway"] {
+        println!("cargo:rustc-link-lib=static={name}");
+        println!("cargo:rerun-if-changed={}", root.join(format!("lib{name}.a")).display());
+    }
 }

@@ -1,5 +1,5 @@
-"""The proved writer of request blocks, for the scripts beside this file: `pr_write_block` of target/staticlib/libexports.a, which
-`rt staticlib exports` writes, made into a shared object with the C compiler (`CC`, else `cc`) and GNU's or LLVM's linker."""
+"""The proved writer of request blocks, for the scripts beside this file: `pr_write_block` of target/staticlib/libgateway.a, which
+`rt staticlib gateway` writes, made into a shared object with the C compiler (`CC`, else `cc`) and GNU's or LLVM's linker."""
 import ctypes
 import os
 import pathlib
@@ -32,9 +32,9 @@ class Refused(Exception):
 
 
 def writer():
-    archive = pathlib.Path(__file__).resolve().parent.parent / "target" / "staticlib" / "libexports.a"
+    archive = pathlib.Path(__file__).resolve().parent.parent / "target" / "staticlib" / "libgateway.a"
     if not archive.exists():
-        raise OSError("%s is missing: `rt staticlib exports` at the project's root writes it" % archive)
+        raise OSError("%s is missing: `rt staticlib gateway` at the project's root writes it" % archive)
     shared = archive.with_suffix(".so")
     if not shared.exists() or shared.stat().st_mtime <= archive.stat().st_mtime:
         # under another name first, so that no one loads half of it
@@ -45,7 +45,7 @@ def writer():
     try:
         write = ctypes.CDLL(str(shared)).pr_write_block
     except AttributeError:
-        raise OSError("%s has no pr_write_block: `rt staticlib exports` writes it anew" % archive) from None
+        raise OSError("%s has no pr_write_block: `rt staticlib gateway` writes it anew" % archive) from None
     write.restype = ctypes.c_uint64
     return write
 

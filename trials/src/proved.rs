@@ -1,4 +1,4 @@
-//! The proved calls and the proved writer, linked from `target/staticlib/libexports.a`, with their answers in the oracle's form.
+//! The proved calls and the proved writer, linked from `target/staticlib/libgateway.a`, with their answers in the oracle's form.
 
 use oracle::board::Answer;
 use oracle::float;

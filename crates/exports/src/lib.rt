@@ -1,20 +1,12 @@
-// The functions that filing tools, bench/ and trials/ call, under C's names and with the contracts of what they call. A layer that is
-// measured adds its own here.
+// The layers below a request that bench/ measures, under C's names and with the contracts of what they call. Users link `gateway`.
 ghost use mathlib.Core.Path.{_≡_};
 ghost use Rattle.float.specs.Root.{root};
 ghost use Rattle.float.specs.Ln.{lnOf};
 ghost use Rattle.jet.specs.Coefficients.{sumOf, productOf, quotientOf, rootOf, logarithmOf, cut};
 ghost use Rattle.evaluations.specs.Residual.{pDpdrho, pDpdrhoD2pdrho2, chemicalPotential};
 ghost use Rattle.evaluations.specs.Critical.{criticalityConditions, stabilityCondition};
-ghost use Rattle.records.specs.Answered.{numberOf, answered};
-ghost use Rattle.board_spec.specs.Board.{submitBoard, turnBoard, lookBoard};
-ghost use Rattle.board.specs.Answers.{numberOf as numberSaid, ticketOf, evaluationsOf, densityOf};
 ghost use Rattle.eos.specs.Cubic.{blendBy};
-ghost use Rattle.writer.specs.Packed.{filedBy};
-ghost use Rattle.writer.specs.Laws.{Answers};
 ghost use Rattle.exports.specs.Rows.{pressureRow, criticalityRow, stabilityRow};
-use block::Conditions;
-use board::Told;
 use jet::Jet;
 
 #[no_mangle]
@@ -231,78 +223,4 @@ pub extern "C" fn eos_stability_condition(
 {
     let y = evaluations::stability_condition(eos::blend(n, tc, a, b, kappa, k_ij, x), t, rho);
     *r = [y.f, y.df];
-}
-
-// A whole job; a slice is a pointer and a length to C.
-#[no_mangle]
-pub extern "C" fn pr_answer(kind: u64, n: u64, block: &[u8], record: &mut [u8]) -> u64
-    ensures { λ r. ⌜ (r ≡ numberOf (answered kind n (now (block .entry)) (now («record» .entry)) .answer)) × (now («record» .exit) ≡ answered kind n (now (block .entry)) (now («record» .entry)) .bytes) ⌝ }
-{
-    let answered = records::answer(kind, n, block, record);
-    records::number(answered)
-}
-
-// The writer of request blocks: 0 where the block was written, else the first refusal and the buffer as it was.
-#[no_mangle]
-pub extern "C" fn pr_write_block(
-    kind: u64,
-    n: u64,
-    coefficients: &[f64],
-    interactions: &[f64],
-    fractions: &[f64],
-    choice: u64,
-    temperature: f64,
-    pressure: f64,
-    start: f64,
-    block: &mut [u8],
-) -> u64
-    ensures { λ r. ⌜ Answers kind n (filedBy (now (coefficients .entry)) (now (interactions .entry)) (now (fractions .entry)) (record { choice = choice; temperature = temperature; pressure = pressure; start = start })) (now (block .entry)) r (now (block .exit)) ⌝ }
-{
-    let c = Conditions {
-        choice,
-        temperature,
-        pressure,
-        start,
-    };
-    writer::write_block(kind, n, coefficients, interactions, fractions, c, block)
-}
-
-// The board's calls. specs/Answers.antt of `board` says what their number means; what a refusal leaves unsaid stands as it was.
-#[no_mangle]
-pub extern "C" fn pr_submit(
-    board: &mut [u8],
-    queue: u64,
-    kind: u64,
-    n: u64,
-    block: &[u8],
-    ticket: &mut u64,
-) -> u64
-    ensures { λ r. ⌜ (r ≡ numberSaid (submitBoard (now (board .entry)) queue kind n (now (block .entry)) .answer)) × (now (board .exit) ≡ submitBoard (now (board .entry)) queue kind n (now (block .entry)) .board) × (now (ticket .exit) ≡ ticketOf (now (ticket .entry)) (submitBoard (now (board .entry)) queue kind n (now (block .entry)) .answer)) ⌝ }
-{
-    let told = board::tell_submit(board, queue, kind, n, block);
-    let Told::Ticket(count) = told else {
-        return board::number(told);
-    };
-    *ticket = count;
-    0
-}
-
-#[no_mangle]
-pub extern "C" fn pr_turn(board: &mut [u8], record: &mut [u8]) -> u64
-    ensures { λ r. ⌜ (r ≡ numberSaid (turnBoard (now (board .entry)) (now («record» .entry)) .answer)) × (now (board .exit) ≡ turnBoard (now (board .entry)) (now («record» .entry)) .board) × (now («record» .exit) ≡ turnBoard (now (board .entry)) (now («record» .entry)) .buffer) ⌝ }
-{
-    board::number(board::tell_turn(board, record))
-}
-
-#[no_mangle]
-pub extern "C" fn pr_look(board: &[u8], queue: u64, evaluations: &mut u64, density: &mut f64) -> u64
-    ensures { λ r. ⌜ (r ≡ numberSaid (lookBoard (now (board .entry)) queue .answer)) × (now (evaluations .exit) ≡ evaluationsOf (now (evaluations .entry)) (lookBoard (now (board .entry)) queue .answer)) × (now (density .exit) ≡ densityOf (now (density .entry)) (lookBoard (now (board .entry)) queue .answer)) ⌝ }
-{
-    let told = board::tell_look(board, queue);
-    let Told::Shown(made, latest) = told else {
-        return board::number(told);
-    };
-    *evaluations = made;
-    *density = latest;
-    0
 }

@@ -1,10 +1,10 @@
--- `exports::pr_look` meets its contract. Assumes nothing.
+-- `gateway::pr_look` meets its contract. Assumes nothing.
 use mathlib.Core.Path.{_∙_, ap}
 use Rattle.board.specs.Answers.{numberOf}
 use Rattle.board.proofs.AnswerLaws.{sight-said, sight-kept}
 use borrow.Author.Needs.{needs}
-use Rattle.exports.proofs.pr_look.Statement.{statement}
-use Rattle.exports.proofs.pr_look.Tie as tie
+use Rattle.gateway.proofs.pr_look.Statement.{statement}
+use Rattle.gateway.proofs.pr_look.Tie as tie
 
 tell-look-requires : tie.Need-tell-look-requires
 tell-look-requires c κs = search needs

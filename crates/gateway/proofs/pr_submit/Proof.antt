@@ -1,10 +1,10 @@
--- `exports::pr_submit` meets its contract. Assumes nothing.
+-- `gateway::pr_submit` meets its contract. Assumes nothing.
 use mathlib.Core.Path.{_∙_, ap}
 use Rattle.board.specs.Answers.{numberOf}
 use Rattle.board.proofs.AnswerLaws.{ticket-said, ticket-kept}
 use borrow.Author.Needs.{needs}
-use Rattle.exports.proofs.pr_submit.Statement.{statement}
-use Rattle.exports.proofs.pr_submit.Tie as tie
+use Rattle.gateway.proofs.pr_submit.Statement.{statement}
+use Rattle.gateway.proofs.pr_submit.Tie as tie
 
 tell-submit-requires : tie.Need-tell-submit-requires
 tell-submit-requires c κs = search needs

@@ -1,9 +1,9 @@
--- `exports::pr_answer` meets its contract. Assumes nothing.
+-- `gateway::pr_answer` meets its contract. Assumes nothing.
 use mathlib.Core.Path.{_∙_, ap}
 use borrow.Author.Needs.{needs}
 use Rattle.records.specs.Answered.{numberOf}
-use Rattle.exports.proofs.pr_answer.Statement.{statement}
-use Rattle.exports.proofs.pr_answer.Tie as tie
+use Rattle.gateway.proofs.pr_answer.Statement.{statement}
+use Rattle.gateway.proofs.pr_answer.Tie as tie
 
 answer-requires : tie.Need-answer-requires
 answer-requires c κs = search needs

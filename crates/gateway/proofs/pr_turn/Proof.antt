@@ -1,9 +1,9 @@
--- `exports::pr_turn` meets its contract. Assumes nothing.
+-- `gateway::pr_turn` meets its contract. Assumes nothing.
 use mathlib.Core.Path.{_∙_, ap}
 use Rattle.board.specs.Answers.{numberOf}
 use borrow.Author.Needs.{needs}
-use Rattle.exports.proofs.pr_turn.Statement.{statement}
-use Rattle.exports.proofs.pr_turn.Tie as tie
+use Rattle.gateway.proofs.pr_turn.Statement.{statement}
+use Rattle.gateway.proofs.pr_turn.Tie as tie
 
 tell-turn-requires : tie.Need-tell-turn-requires
 tell-turn-requires c κs = search needs
