@@ -1,0 +1,224 @@
+//! Answers of the library beside those of the oracle, a separate implementation, for every kind and every refusal by
+//! the equation. `answer` and the board give the same sealed bytes.
+
+mod common;
+
+use common::{eight_components, propane, propane_butane, Numbers};
+use peng_robinson_board::DensityInitialization::{InitialDensity, Liquid, Vapor};
+use peng_robinson_board::*;
+use std::io::Write;
+use std::process::{Command, Stdio};
+
+/// Requests, and the lines that `oracle --batch` printed for blocks packed by a script from the same numbers: kind,
+/// status, three values as bits, evaluations.
+#[rustfmt::skip]
+fn cases() -> Vec<(Request, &'static str)> {
+    let (pure, two, eight) = (propane(), propane_butane(), eight_components());
+    let cases = [
+        (Request::density(&two, 300.0, 0.05, Liquid), "1 0 3F7B5EDAFF5A36A6 0000000000000000 0000000000000000 9"),
+        (Request::density(&two, 300.0, 0.02, Vapor), "1 0 3F128BAA8A86D745 0000000000000000 0000000000000000 4"),
+        (
+            Request::density(&two, 250.0, 10.0, InitialDensity(0.004)),
+            "1 0 3F81ABFC58EB3068 0000000000000000 0000000000000000 24",
+        ),
+        (
+            Request::density(&two, 300.0, 0.05, InitialDensity(-1.0)),
+            "1 21 0000000000000000 0000000000000000 0000000000000000 0",
+        ),
+        (Request::density(&two, 369.8, -1.0, Liquid), "1 22 0000000000000000 0000000000000000 0000000000000000 67"),
+        (Request::density(&pure, 0.001, -0.1, Liquid), "1 25 0000000000000000 0000000000000000 0000000000000000 51"),
+        (
+            Request::density(&pure, 200.0, 1e300, InitialDensity(0.004)),
+            "1 27 0000000000000000 0000000000000000 0000000000000000 21",
+        ),
+        (Request::density(&eight, 320.0, 0.3, Vapor), "1 0 3F5A9C210AA7DC01 0000000000000000 0000000000000000 6"),
+        (Request::stable_density(&two, 368.0, 0.02), "2 0 3F0D6E359CA857CD 0000000000000000 0000000000000000 35"),
+        (Request::stable_density(&two, 200.0, 100.0), "2 0 3F8353A41794892E 0000000000000000 0000000000000000 14"),
+        (Request::stable_density(&eight, 250.0, 0.5), "2 0 3F82817316D0C6DC 0000000000000000 0000000000000000 25"),
+        (Request::stable_density(&two, 300.0, -1.0), "2 24 0000000000000000 0000000000000000 0000000000000000 64"),
+        (Request::stable_density(&two, 250.0, 100.0), "2 22 0000000000000000 0000000000000000 0000000000000000 50"),
+        (Request::pressure_spinodal(&pure, 250.0, 0.003), "3 0 3FB435DD4E70E568 3F4635F103D24363 C1124A53E660EFE7 9"),
+        (Request::pressure_spinodal(&two, 250.0, 0.006), "3 0 BFFE9F7F580FCCCC 3F783DA60560CA10 41249E98B17CFBB1 5"),
+        (Request::pressure_spinodal(&two, 250.0, 0.0), "3 21 0000000000000000 0000000000000000 0000000000000000 0"),
+        (Request::pressure_spinodal(&two, 400.0, 0.001), "3 22 0000000000000000 0000000000000000 0000000000000000 30"),
+        (
+            Request::spinodal_branch(&two, 360.0, Phase::Vapor),
+            "4 0 3FC98BBA361854BA 3F55D25CA85AF105 0000000000000000 7",
+        ),
+        (
+            Request::spinodal_branch(&two, 200.0, Phase::Liquid),
+            "4 0 C00B8A9CF99D3720 3F7B11A1C5CB53BA 0000000000000000 5",
+        ),
+        (
+            Request::spinodal_branch(&pure, 0.001, Phase::Liquid),
+            "4 25 0000000000000000 0000000000000000 0000000000000000 21",
+        ),
+        (Request::critical_point(&two, 0, None, None), "5 0 40771D213CEC8CA5 3F662B76C42F98DC 0000000000000000 5"),
+        (Request::critical_point(&two, 1, None, None), "5 0 407A91C12982F698 3F613BFB372EDA07 0000000000000000 6"),
+        (
+            Request::critical_point(&pure, 0, Some(250.0), Some(0.003)),
+            "5 0 40771D213CEC8CA6 3F662B76C42F98DC 0000000000000000 6",
+        ),
+        (
+            Request::critical_point(&eight, 7, None, Some(0.004)),
+            "5 0 407301EF68133BA4 3F7768CCB24151B5 0000000000000000 6",
+        ),
+        (
+            Request::critical_point(&pure, 0, Some(1e124), None),
+            "5 23 0000000000000000 0000000000000000 0000000000000000 8",
+        ),
+        (Request::stability_spinodals(&two, 1, 350.0), "6 0 3F4A98AA3FAE44DC 3F70D5BA291BDF4F 0000000000000000 20"),
+        (Request::stability_spinodals(&eight, 2, 300.0), "6 0 3F50CDB880EB94A5 3F75D75D1A2D8EAF 0000000000000000 19"),
+        (Request::stability_spinodals(&pure, 0, 400.0), "6 26 0000000000000000 0000000000000000 0000000000000000 55"),
+    ];
+    let made = cases.into_iter().map(|(request, line)| (request.expect(line), line));
+    let mut cases: Vec<_> = made.collect();
+    // document 01's near case
+    let mut zeros = [0; REQUEST_BYTES];
+    zeros[..2].copy_from_slice(&[3, 1]);
+    let zeros = Request::from_bytes(&zeros).expect("642 bytes");
+    cases.push((zeros, "3 11 0000000000000000 0000000000000000 0000000000000000 0"));
+    cases
+}
+
+/// The oracle's line of a sealed part.
+fn line(kind: u64, sealed: &Sealed) -> String {
+    let [first, second, third] = sealed.values.map(f64::to_bits);
+    format!("{kind} {} {first:016X} {second:016X} {third:016X} {}", sealed.status, sealed.evaluations)
+}
+
+#[test]
+fn answers_are_those_of_the_oracle() {
+    for (request, expected) in cases() {
+        let sealed = answer(&request).expect(expected);
+        assert_eq!(line(request.kind(), &sealed), expected);
+        match sealed.outcome() {
+            Ok(values) => assert_eq!((sealed.status, values), (0, sealed.values), "{expected}"),
+            Err(refusal) => assert_eq!(refusal.number(), sealed.status, "{expected}"),
+        }
+    }
+}
+
+/// `ORACLE=PATH cargo test --offline --test values -- --ignored`, with the path of the oracle's program.
+#[test]
+#[ignore = "needs the oracle's program"]
+fn lines_are_those_that_the_oracle_prints() {
+    let oracle = std::env::var_os("ORACLE").expect("ORACLE names the oracle's program");
+    for (request, expected) in cases() {
+        let mut child = Command::new(&oracle)
+            .stdin(Stdio::piped())
+            .stdout(Stdio::piped())
+            .spawn()
+            .expect("the oracle runs");
+        let mut input = child.stdin.take().expect("standard input");
+        input.write_all(&request.to_bytes()).expect("642 bytes are read");
+        drop(input);
+        let output = child.wait_with_output().expect("the oracle ends");
+        assert_eq!(String::from_utf8_lossy(&output.stdout).trim_end(), expected);
+    }
+}
+
+/// Document 02, P2: the parts packed from 16 and zeros after them.
+#[test]
+fn written_blocks_are_packed_from_16() {
+    for blend in [propane(), propane_butane(), eight_components()] {
+        let request = Request::density(&blend, 300.0, 0.05, InitialDensity(0.001)).unwrap();
+        assert_eq!((request.kind(), request.components()), (1, blend.components.len() as u64));
+        assert_eq!(*request.block(), Numbers::of(&blend, 2, 300.0, 0.05, 0.001).block());
+        let request = Request::spinodal_branch(&blend, 300.0, Phase::Liquid).unwrap();
+        assert_eq!(*request.block(), Numbers::of(&blend, 1, 300.0, 0.0, 0.0).block());
+        let request = Request::critical_point(&blend, 0, None, Some(0.001)).unwrap();
+        assert_eq!(*request.block(), Numbers::of(&blend, 0, 0.0, 0.0, 0.001).block());
+        let bytes = request.to_bytes();
+        assert_eq!((bytes[0], u64::from(bytes[1])), (5, request.components()));
+        assert_eq!(bytes[2..], request.block()[..]);
+        assert_eq!(Request::from_bytes(&bytes), Ok(request));
+    }
+}
+
+/// The sealed bytes of `answer_block`; bytes 0 to 15 and those from 64 on stay.
+fn sealed_bytes(request: &Request) -> Vec<u8> {
+    let mut buffer = [0xA5; 80];
+    answer_block(request.kind(), request.components(), request.block(), &mut buffer).unwrap();
+    assert!(buffer[..16].iter().chain(&buffer[64..]).all(|byte| *byte == 0xA5));
+    buffer[16..64].to_vec()
+}
+
+/// All cases at once on one board, eight in a queue.
+#[test]
+fn the_board_hands_out_what_answer_gives() {
+    let mut board = Board::new();
+    let mut waiting = Vec::new();
+    for (i, (request, expected)) in cases().into_iter().enumerate() {
+        let ticket = board.submit(i as u64 % QUEUES, &request).expect(expected);
+        waiting.push((ticket, request, expected));
+    }
+    // no queue takes longer than eight jobs of the longest span
+    for _ in 0..QUEUES * 8 * Kind::StableDensity.span() {
+        let Some(record) = board.turn().unwrap() else {
+            continue;
+        };
+        let at = waiting.iter().position(|(ticket, ..)| *ticket == record.ticket());
+        let (_, request, expected) = waiting.remove(at.expect("a ticket that was given"));
+        assert_eq!(record.kind().map(Kind::number), Ok(request.kind()));
+        assert_eq!(line(request.kind(), &record.sealed()), expected);
+        assert_eq!(record.as_bytes()[16..], sealed_bytes(&request), "{expected}");
+        assert_eq!(record.as_bytes()[56..], [0; 8], "{expected}");
+        assert_eq!(record.public(), &record.as_bytes()[..16]);
+        assert_eq!(record.public()[10..], [0; 6]);
+        assert_eq!(record.sealed(), answer(&request).unwrap());
+    }
+    assert!(waiting.is_empty());
+}
+
+/// The densities that `oracle --trace` printed for the first case, evaluation by evaluation.
+const DENSITIES: [u64; 9] = [
+    0x3F81AF3A371CF348,
+    0x3F808C421F1C7A1F,
+    0x3F7E98026D7E576A,
+    0x3F7C9157B8A011EE,
+    0x3F7B91BE8F508C77,
+    0x3F7B606F15160581,
+    0x3F7B5EDB656E8242,
+    0x3F7B5EDAFF5A3D2A,
+    0x3F7B5EDAFF5A36A6,
+];
+
+/// A look shows the lesser of the turns had and the evaluations of the whole search, and the density of the latest one.
+#[test]
+fn a_look_shows_the_latest_evaluation() {
+    let densities = DENSITIES.map(f64::from_bits);
+    let (request, _) = cases().swap_remove(0);
+    let mut board = Board::new();
+    board.submit(0, &request).unwrap();
+    for turns in 1..=20 {
+        assert_eq!(board.turn(), Ok(None));
+        let evaluations = densities.len().min(turns);
+        let expected = Look { evaluations: evaluations as u64, density: densities[evaluations - 1] };
+        assert_eq!(board.look(0), Ok(expected), "{turns}");
+        for _ in 0..3 {
+            assert_eq!(board.turn(), Ok(None));
+            assert_eq!(board.look(0), Ok(expected), "{turns}");
+        }
+    }
+}
+
+#[test]
+fn threads_get_the_same_answers() {
+    fn shared<T: Send + Sync>() {}
+    shared::<(Board, Request, Record, Sealed, Refusal)>();
+    let work = || {
+        let request = Request::pressure_spinodal(&propane(), 250.0, 0.003).unwrap();
+        let expected = "3 0 3FB435DD4E70E568 3F4635F103D24363 C1124A53E660EFE7 9";
+        let mut board = Board::new();
+        board.submit(0, &request).unwrap();
+        let turns = (0..QUEUES * Kind::PressureSpinodal.span()).filter_map(|_| board.turn().unwrap());
+        let records: Vec<Record> = turns.collect();
+        let [record] = &records[..] else { panic!("{} records", records.len()) };
+        assert_eq!(line(request.kind(), &record.sealed()), expected);
+        board
+    };
+    let threads: Vec<_> = (0..4).map(|_| std::thread::spawn(work)).collect();
+    let boards: Vec<_> = threads.into_iter().map(|thread| thread.join().unwrap()).collect();
+    assert!(boards.iter().all(|board| *board == boards[0]));
+}
