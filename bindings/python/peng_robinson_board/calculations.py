@@ -1,0 +1,99 @@
+"""Calculations in SI (K, Pa, mol/m^3), each a whole job of the proved library. Any refusal raises `Refused`."""
+from dataclasses import dataclass
+from typing import Optional, Tuple
+
+from . import library
+from .blend import Blend, Component
+from .record import Record
+from .refusals import Refused
+from .request import Phase, Request
+
+
+@dataclass(frozen=True)
+class Density:
+    density: float
+    evaluations: int
+    record: Record
+
+
+@dataclass(frozen=True)
+class Spinodal:
+    pressure: float
+    density: float
+    curvature: Optional[float]  # Pa/(mol/m^3)^2; handed out by a search from a start only
+    evaluations: int
+    record: Record
+
+
+@dataclass(frozen=True)
+class CriticalPoint:
+    temperature: float
+    density: float
+    evaluations: int
+    record: Record
+
+
+@dataclass(frozen=True)
+class StabilitySpinodals:
+    vapor_density: float
+    liquid_density: float
+    evaluations: int
+    record: Record
+
+
+def answer(request: Request) -> Record:
+    """The record of a whole job without a board. Raises `Refused` where the call is refused; what the data or the
+    equation refuse is in the record's status."""
+    data = bytearray(library.RECORD_BYTES)
+    number = library.answer(request.kind, request.n, request.block, data)
+    if number != 0:
+        raise Refused(number)
+    # the call writes the sealed part alone; ticket and queue stay 0
+    data[8] = request.kind
+    return Record.from_bytes(bytes(data))
+
+
+def _answered(request: Request) -> Tuple[Record, Tuple[float, ...]]:
+    """The record and its values in SI."""
+    record = answer(request)
+    if record.refused is not None:
+        raise record.refused
+    return record, tuple(value.quantity.to_si(reduced) for value, reduced in record.handed_out())
+
+
+def density(blend: Blend, temperature: float, pressure: float, phase: Phase) -> Density:
+    """Density of a phase, "vapor" or "liquid", or the one that a search from a density in mol/m^3 comes to (kind 1)."""
+    record, (found,) = _answered(Request.density(blend, temperature, pressure, phase))
+    return Density(found, record.evaluations, record)
+
+
+def stable_density(blend: Blend, temperature: float, pressure: float) -> Density:
+    """Density of the stable phase (kind 2)."""
+    record, (found,) = _answered(Request.stable_density(blend, temperature, pressure))
+    return Density(found, record.evaluations, record)
+
+
+def spinodal(blend: Blend, temperature: float, phase: str) -> Spinodal:
+    """Spinodal of the vapour or liquid branch (kind 4)."""
+    record, (pressure, found) = _answered(Request.spinodal(blend, temperature, phase))
+    return Spinodal(pressure, found, None, record.evaluations, record)
+
+
+def pressure_spinodal(blend: Blend, temperature: float, start: float) -> Spinodal:
+    """Spinodal that a search from a density in mol/m^3 comes to, with the curvature there (kind 3)."""
+    record, (pressure, found, curvature) = _answered(Request.pressure_spinodal(blend, temperature, start))
+    return Spinodal(pressure, found, curvature, record.evaluations, record)
+
+
+def critical_point(
+    component: Component, temperature: Optional[float] = None, start: Optional[float] = None
+) -> CriticalPoint:
+    """Critical point of a component, searched from a temperature and density if given (kind 5)."""
+    record, (found, critical_density) = _answered(Request.critical_point(component, temperature, start))
+    return CriticalPoint(found, critical_density, record.evaluations, record)
+
+
+def stability_spinodals(component: Component, temperature: float) -> StabilitySpinodals:
+    """Densities of both spinodals of a component by its stability condition (kind 6)."""
+    record, (vapor, liquid) = _answered(Request.stability_spinodals(component, temperature))
+    return StabilitySpinodals(vapor, liquid, record.evaluations, record)

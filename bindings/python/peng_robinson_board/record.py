@@ -1,0 +1,56 @@
+"""Records: the 64 bytes that a finished job leaves, public fields first, then the sealed part (document 01)."""
+import struct
+from dataclasses import dataclass
+from typing import List, Optional, Tuple
+
+from .kinds import Value, describe
+from .library import RECORD_BYTES
+from .refusals import Refused
+
+
+def bits(number: float) -> str:
+    """A float's bits in 16 upper-case hexadecimal digits; every NaN is one value."""
+    if number != number:
+        return "7FF8000000000000"
+    return "%016X" % struct.unpack("<Q", struct.pack("<d", number))
+
+
+@dataclass(frozen=True)
+class Record:
+    """A record; its values are reduced numbers. In one made without a board ticket and queue are 0."""
+
+    ticket: int
+    kind: int
+    queue: int
+    status: int
+    values: Tuple[float, float, float]
+    evaluations: int
+
+    @classmethod
+    def from_bytes(cls, data: bytes) -> "Record":
+        """The record of 64 bytes; raises `ValueError` for another length. Bytes that are kept zero are not read."""
+        if len(data) != RECORD_BYTES:
+            raise ValueError(f"a record has {RECORD_BYTES} bytes, not {len(data)}")
+        ticket, kind, queue, status, first, second, third, evaluations = struct.unpack("<QBB6xQdddQ8x", data)
+        return cls(ticket, kind, queue, status, (first, second, third), evaluations)
+
+    @property
+    def refused(self) -> Optional[Refused]:
+        """The refusal that the sealed status says, or none."""
+        return Refused(self.status, self) if self.status != 0 else None
+
+    @property
+    def bits(self) -> Tuple[str, str, str]:
+        first, second, third = self.values
+        return bits(first), bits(second), bits(third)
+
+    def handed_out(self) -> List[Tuple[Value, float]]:
+        """The values that the kind hands out and their reduced numbers; none after a refusal or of an unknown kind."""
+        description = describe(self.kind)
+        if description is None or self.status != 0:
+            return []
+        return list(zip(description.values, self.values))
+
+    def line(self) -> str:
+        """Kind, status, three floats as bits, evaluations: the line of document 01's program."""
+        return " ".join([str(self.kind), str(self.status), *self.bits, str(self.evaluations)])

@@ -1,0 +1,142 @@
+"""The subcommand `replay`: a readable list of calls made on a fresh board, a line for each, as the program
+replay_calls prints them (crates/call_lines)."""
+import argparse
+import json
+import sys
+from dataclasses import dataclass
+from typing import Any, Iterator, List, Optional, TextIO
+
+from .arguments import Usage
+from .board import Board
+from .library import BLOCK_BYTES, RECORD_BYTES
+from .record import bits
+from .refusals import Refused
+from .request import Request
+
+# of the list's binary form, which the programs read: a call's header, and the longest record buffer of a turn
+HEADER_BYTES = 40
+LONGEST_RECORD = 256
+
+FORM = """\
+one call on a line; a # begins a comment:
+  submit QUEUE KIND N BLOCK    BLOCK is a file with the block's bytes, or `zeros` for 640 zero bytes
+  turn [LENGTH [TIMES]]        a turn with a record buffer of LENGTH bytes, 64 where none is given, so many times
+  look QUEUE
+
+prints a line for each: `ticket 7`, `turned 0`, `turned 1 TICKET KIND QUEUE`, `looked EVALUATIONS DENSITY` (bits) or
+`refused 4`. A turn's length above 256 ends the list: `end` and the bytes left of it in its binary form. Refused calls
+are answers like others and leave the exit status 0.
+"""
+
+
+@dataclass(frozen=True)
+class Call:
+    """A call of the list; a turn may stand for several."""
+
+    what: str
+    queue: int = 0
+    request: Optional[Request] = None
+    record_length: int = RECORD_BYTES
+    times: int = 1
+
+    def size(self) -> int:
+        """Its bytes in the list's binary form."""
+        return self.times * (HEADER_BYTES + (len(self.request.block) if self.request is not None else 0))
+
+
+def _number(word: str) -> int:
+    value = int(word, 0)
+    if not 0 <= value < 2**64:
+        raise ValueError(f"{word} is no number of eight bytes")
+    return value
+
+
+def _call(words: List[str]) -> Call:
+    if words[0] == "submit" and len(words) == 5:
+        queue, kind, n = (_number(word) for word in words[1:4])
+        if words[4] == "zeros":
+            block = bytes(BLOCK_BYTES)
+        else:
+            with open(words[4], "rb") as file:
+                block = file.read()
+        return Call("submit", queue, Request(kind, n, block))
+    if words[0] == "turn" and len(words) <= 3:
+        numbers = [_number(word) for word in words[1:]]
+        return Call("turn", 0, None, *numbers)
+    if words[0] == "look" and len(words) == 2:
+        return Call("look", _number(words[1]))
+    raise ValueError("no call")
+
+
+def calls(script: TextIO) -> Iterator[Call]:
+    """The calls of a script; raises `Usage` with the line that is none."""
+    for place, line in enumerate(script, 1):
+        words = line.split("#")[0].split()
+        if words:
+            try:
+                call = _call(words)
+            except (ValueError, OSError) as fault:
+                raise Usage(f"line {place}: {line.strip()}: {fault}") from None
+            yield call
+
+
+def made(board: Board, call: Call) -> List[Any]:
+    """The answer of one call, as the words of its line."""
+    try:
+        if call.request is not None:
+            return ["ticket", board.submit(call.queue, call.request).number]
+        if call.what == "look":
+            look = board.look(call.queue)
+            return ["looked", look.evaluations, bits(look.density)]
+        record = board.turn(call.record_length)
+        return ["turned", 0] if record is None else ["turned", 1, record.ticket, record.kind, record.queue]
+    except Refused as refused:
+        return ["refused", refused.number]
+
+
+def as_json(words: List[Any]) -> str:
+    names = {
+        "ticket": ["ticket"],
+        "looked": ["evaluations", "density_bits"],
+        "turned": ["written", "ticket", "kind", "queue"],
+        "refused": ["refusal"],
+        "end": ["bytes_left"],
+    }
+    return json.dumps({"answer": words[0], **dict(zip(names[words[0]], words[1:]))})
+
+
+def replay(script: TextIO) -> Iterator[List[Any]]:
+    """The answers to a script's calls on a fresh board."""
+    board = Board()
+    listed = calls(script)
+    for call in listed:
+        if call.what == "turn" and call.record_length > LONGEST_RECORD and call.times > 0:
+            yield ["end", call.size() + sum(later.size() for later in listed)]
+            return
+        for _ in range(call.times):
+            yield made(board, call)
+
+
+def run_replay(arguments: argparse.Namespace) -> int:
+    if arguments.script in (None, "-"):
+        if sys.stdin is None:
+            raise Usage("standard input is closed")
+        return _print(sys.stdin, arguments)
+    with open(arguments.script, encoding="utf-8") as script:
+        return _print(script, arguments)
+
+
+def _print(script: TextIO, arguments: argparse.Namespace) -> int:
+    for words in replay(script):
+        print(as_json(words) if arguments.json else " ".join(map(str, words)))
+    return 0
+
+
+def add_parser(subparsers: Any) -> None:
+    what = "make a readable list of calls on a fresh board, a line for each"
+    parser = subparsers.add_parser(
+        "replay", help=what, description=f"{what}\n\n{FORM}", formatter_class=argparse.RawDescriptionHelpFormatter
+    )
+    parser.add_argument("script", nargs="?", metavar="SCRIPT", help="a file; standard input where none is named, or -")
+    parser.add_argument("--json", action="store_true", help="a JSON object on a line for each call")
+    parser.set_defaults(run=run_replay, prog=parser.prog)

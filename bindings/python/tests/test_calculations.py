@@ -1,0 +1,224 @@
+"""Blocks against document 01's layout, answers against the oracle's, SI against reduced numbers."""
+import struct
+import unittest
+from fractions import Fraction
+from typing import Tuple
+
+from peng_robinson_board import (
+    Blend,
+    Component,
+    Record,
+    Refused,
+    Request,
+    answer,
+    critical_point,
+    density,
+    pressure_spinodal,
+    spinodal,
+    stability_spinodals,
+    stable_density,
+)
+
+from tests.oracle_cases import CASES, LPG, PURE, Case
+from tests.support import BUTANE, PROPANE
+
+PASCALS = Fraction(13806490)
+MOLES = Fraction(10**30) / Fraction(602214076 * 10**15)  # mol/m^3 in a molecule per cubic angstrom
+
+
+def blend_of(case: Case) -> Blend:
+    components = tuple(Component(f"c{place}", *numbers) for place, numbers in enumerate(case.components))
+    return Blend(components, case.fractions, case.interactions)
+
+
+def numbers_of(line: str) -> Tuple[float, ...]:
+    return tuple(struct.unpack(">d", bytes.fromhex(word))[0] for word in line.split()[2:5])
+
+
+class Oracle(unittest.TestCase):
+    def test_every_kind_is_there(self) -> None:
+        self.assertEqual({case.kind for case in CASES if case.status == 0}, {1, 2, 3, 4, 5, 6})
+
+    def test_answers(self) -> None:
+        for case in CASES:
+            with self.subTest(case=case):
+                record = answer(Request.from_bytes(case.request()))
+                self.assertEqual(record.line(), case.line)
+                self.assertEqual((record.ticket, record.queue, record.kind), (0, 0, case.kind))
+                self.assertEqual(record.refused is not None, case.status != 0)
+
+    def test_writer_packs_by_document_01_or_refuses_by_the_answer(self) -> None:
+        for case in CASES:
+            conditions = (case.choice, case.temperature, case.pressure, case.start)
+            with self.subTest(case=case):
+                if 11 <= case.status <= 17:
+                    with self.assertRaises(Refused) as caught:
+                        Request.new(case.kind, blend_of(case), *conditions)
+                    self.assertEqual(caught.exception.number, case.status)
+                else:
+                    request = Request.new(case.kind, blend_of(case), *conditions)
+                    self.assertEqual(request.to_bytes(), case.request())
+
+
+class SI(unittest.TestCase):
+    propane = Component("propane", *PROPANE)
+    blend = Blend.of([propane, Component("butane", *BUTANE)], [0.6, 0.4], {("butane", "propane"): 0.003})
+
+    def near(self, found: float, reduced: float, factor: Fraction) -> None:
+        self.assertLess(abs(Fraction(found) / (Fraction(reduced) * factor) - 1), Fraction(1, 10**14))
+
+    def conditions(self, request: Request) -> Tuple[int, float, float, float]:
+        offset = struct.unpack_from("<H", request.block, 12)[0]
+        return struct.unpack_from("<Qddd", request.block, offset)
+
+    def test_requests(self) -> None:
+        pressure = float(Fraction(5, 10**2) * PASCALS)
+        start = float(Fraction(6, 10**3) * MOLES)
+        for request, kind, choice, temperature, reduced_pressure, reduced_start in (
+            (Request.density(self.blend, 300.0, pressure, "liquid"), 1, 1, 300.0, 0.05, 0.0),
+            (Request.density(self.blend, 300.0, pressure, "vapor"), 1, 0, 300.0, 0.05, 0.0),
+            (Request.density(self.blend, 300.0, pressure, "vapour"), 1, 0, 300.0, 0.05, 0.0),
+            (Request.density(self.blend, 300.0, pressure, start), 1, 2, 300.0, 0.05, 0.006),
+            (Request.stable_density(self.blend, 300.0, pressure), 2, 0, 300.0, 0.05, 0.0),
+            (Request.pressure_spinodal(self.blend, 300.0, start), 3, 0, 300.0, 0.0, 0.006),
+            (Request.spinodal(self.blend, 300.0, "liquid"), 4, 1, 300.0, 0.0, 0.0),
+            (Request.spinodal(self.blend, 300.0, "vapour"), 4, 0, 300.0, 0.0, 0.0),
+            (Request.critical_point(self.propane), 5, 0, 0.0, 0.0, 0.0),
+            (Request.critical_point(self.propane, 350.0, start), 5, 0, 350.0, 0.0, 0.006),
+            (Request.stability_spinodals(self.propane, 300.0), 6, 0, 300.0, 0.0, 0.0),
+        ):
+            with self.subTest(kind=kind, choice=choice):
+                self.assertEqual((request.kind, request.n), (kind, 2 if kind < 5 else 1))
+                found = self.conditions(request)
+                self.assertEqual(found[:2], (choice, temperature))
+                self.assertAlmostEqual(found[2], reduced_pressure, delta=1e-17)
+                self.assertAlmostEqual(found[3], reduced_start, delta=1e-17)
+
+    def expected(self, *words: object) -> str:
+        """The oracle's line for a blend and conditions."""
+        (line,) = [case.line for case in CASES if case[1:] == Case("", *words)[1:]]  # type: ignore[arg-type]
+        return line
+
+    def test_calculations(self) -> None:
+        pressure = 0.05 * 13806490
+        for found, line in (
+            (density(self.blend, 300.0, pressure, "liquid"), self.expected(1, *LPG, 1, 300.0, 0.05)),
+            (stable_density(self.blend, 300.0, pressure), self.expected(2, *LPG, 0, 300.0, 0.05)),
+        ):
+            self.assertEqual(found.record.line(), line)
+            self.near(found.density, numbers_of(line)[0], MOLES)
+            self.assertEqual(found.evaluations, int(line.split()[-1]))
+        line = self.expected(4, *LPG, 1, 300.0)
+        branch = spinodal(self.blend, 300.0, "liquid")
+        self.near(branch.pressure, numbers_of(line)[0], PASCALS)
+        self.near(branch.density, numbers_of(line)[1], MOLES)
+        self.assertIsNone(branch.curvature)
+        line = self.expected(5, *PURE)
+        critical = critical_point(self.propane)
+        self.assertEqual(critical.temperature, numbers_of(line)[0])
+        self.near(critical.density, numbers_of(line)[1], MOLES)
+        line = self.expected(6, *PURE, 0, 300.0)
+        both = stability_spinodals(self.propane, 300.0)
+        self.near(both.vapor_density, numbers_of(line)[0], MOLES)
+        self.near(both.liquid_density, numbers_of(line)[1], MOLES)
+        self.assertEqual(both.evaluations, int(line.split()[-1]))
+
+    def test_spinodal_from_a_start(self) -> None:
+        line = self.expected(3, *LPG, 0, 300.0, 0.0, 0.001)
+        found = pressure_spinodal(self.blend, 300.0, float(Fraction(1, 1000) * MOLES))
+        # the start is a rounding away from the oracle's
+        for value, factor, number in zip(
+            (found.pressure, found.density, found.curvature), (PASCALS, MOLES, PASCALS / MOLES**2), numbers_of(line)
+        ):
+            assert value is not None
+            self.assertLess(abs(Fraction(value) / (Fraction(number) * factor) - 1), Fraction(1, 10**11))
+
+    def test_refusals_raise_with_their_record(self) -> None:
+        with self.assertRaises(Refused) as caught:
+            stability_spinodals(self.propane, 600.0)
+        self.assertEqual((caught.exception.number, caught.exception.refusal), (26, 26))
+        assert caught.exception.record is not None
+        self.assertEqual(caught.exception.record.line(), self.expected(6, *PURE, 0, 600.0))
+
+    def test_nan_and_infinities_go_to_the_writer(self) -> None:
+        for number in (float("nan"), float("inf"), float("-inf"), -300.0, 0.0):
+            for refused in (
+                lambda x: density(self.blend, x, 1e5, "liquid"),
+                lambda x: spinodal(self.blend, x, "liquid"),
+                lambda x: stability_spinodals(self.propane, x),
+            ):
+                with self.assertRaises(Refused) as caught:
+                    refused(number)
+                self.assertEqual(caught.exception.number, 15)
+
+    def test_other_phases(self) -> None:
+        self.assertRaises(ValueError, density, self.blend, 300.0, 1e5, "solid")
+        self.assertRaises(ValueError, spinodal, self.blend, 300.0, "start")
+        self.assertRaises(ValueError, spinodal, self.blend, 300.0, 1000.0)
+
+
+class Blends(unittest.TestCase):
+    a, b, c, d = (Component(name, *PROPANE) for name in "abcd")
+
+    def test_interactions_by_rows(self) -> None:
+        kij = {("c", "a"): 2.0, ("a", "d"): 3.0, ("b", "c"): 4.0, ("d", "c"): 6.0}
+        blend = Blend.of([self.a, self.b, self.c, self.d], [0.1, 0.2, 0.3, 0.4], kij)
+        self.assertEqual(blend.interactions, (0.0, 2.0, 3.0, 4.0, 0.0, 6.0))
+        self.assertEqual(blend.coefficients(), PROPANE * 4)
+        self.assertEqual(Blend.of([self.a, self.b], [0.5, 0.5]).interactions, (0.0,))
+        self.assertEqual(Blend.pure(self.a), Blend.of([self.a], [1.0]))
+
+    def test_faults(self) -> None:
+        for components, kij in (
+            ([self.a, self.a], {}),
+            ([self.a, self.b], {("a", "x"): 0.0}),
+            ([self.a, self.b], {("a", "a"): 0.0}),
+            ([self.a, self.b], {("a", "b"): 0.0, ("b", "a"): 0.0}),
+        ):
+            self.assertRaises(ValueError, Blend.of, components, [0.5, 0.5], kij)
+
+    def test_counts_are_the_writers_to_refuse(self) -> None:
+        for expected, blend in (
+            (3, Blend((), (), ())),
+            (3, Blend.of([Component(str(i), *PROPANE) for i in range(9)], [1 / 9] * 9)),
+            (3, Blend.of([Component(str(i), *PROPANE) for i in range(300)], [1 / 300] * 300)),
+            (11, Blend.of([self.a, self.b], [1.0])),
+            (11, Blend((self.a,), (1.0,), (0.0,))),
+        ):
+            with self.assertRaises(Refused) as caught:
+                Request.stable_density(blend, 300.0, 1e5)
+            self.assertEqual(caught.exception.number, expected)
+
+
+class Bytes(unittest.TestCase):
+    def test_lengths(self) -> None:
+        for length in (0, 641, 643):
+            self.assertRaises(ValueError, Request.from_bytes, bytes(length))
+        for length in (0, 63, 65, 128):
+            self.assertRaises(ValueError, Record.from_bytes, bytes(length))
+        self.assertRaises(ValueError, Request(3, 1, bytes(639)).to_bytes)
+        self.assertRaises(ValueError, Request(256, 1, bytes(640)).to_bytes)
+
+    def test_record_by_document_01(self) -> None:
+        data = struct.pack("<QBB6xQdddQ8x", 2**64 - 1, 3, 2, 0, 1.0, -0.0, float("-inf"), 17)
+        record = Record.from_bytes(data)
+        self.assertEqual((record.ticket, record.kind, record.queue, record.status), (2**64 - 1, 3, 2, 0))
+        self.assertEqual(record.line(), "3 0 3FF0000000000000 8000000000000000 FFF0000000000000 17")
+        # document 01: a NaN counts as one value
+        nans = data[:24] + struct.pack("<Q", 0xFFF0000000000001) + data[32:]
+        self.assertEqual(Record.from_bytes(nans).bits[0], "7FF8000000000000")
+
+    def test_near_case_of_document_01(self) -> None:
+        line = "3 11 0000000000000000 0000000000000000 0000000000000000 0"
+        self.assertEqual(answer(Request.from_bytes(b"\x03\x01" + bytes(640))).line(), line)
+
+    def test_calls_that_are_refused(self) -> None:
+        for expected, request in (
+            (2, Request(0, 1, bytes(640))),
+            (3, Request(1, 9, bytes(640))),
+            (8, Request(1, 1, bytes(639))),
+        ):
+            with self.assertRaises(Refused) as caught:
+                answer(request)
+            self.assertEqual(caught.exception.number, expected)
+            self.assertIsNone(caught.exception.record)

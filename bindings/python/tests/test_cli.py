@@ -1,0 +1,374 @@
+"""The command line: what it calculates, in every form; usage, refusals and their exit statuses."""
+import csv
+import io
+import json
+import os
+import struct
+import tempfile
+import unittest
+import unittest.mock
+from pathlib import Path
+from typing import Any, Dict, List
+
+from peng_robinson_board import Record, Refused, Request, answer, commands
+
+from tests.oracle_cases import CASES
+from tests.support import PROJECT, Ran, run
+
+LPG = ["propane:369.83:4.248e6:0.1523=0.6", "butane:425.12:3.796e6:0.2002=0.4", "--kij", "propane,butane=0.003"]
+PURE = "propane:369.83:4.248e6:0.1523"
+PRESSURE = repr(0.05 * 13806490)
+
+# a command line, and the case of the oracle's that it asks for
+ASKED = [
+    (["density", *LPG, "--temperature", "300", "--pressure", PRESSURE, "--phase", "liquid"], 0),
+    (["stable", *LPG, "--temperature", "300", "--pressure", PRESSURE], 4),
+    (["spinodal", *LPG, "--temperature", "300", "--phase", "vapour"], 9),
+    (["spinodal", *LPG, "--temperature", "300", "--phase", "liquid"], 10),
+    (["critical", PURE], 11),
+    (["spinodal", PURE, "--temperature", "300", "--stability"], 14),
+]
+NAMES = {1: ["density"], 2: ["density"], 4: ["pressure", "density"], 5: ["temperature", "density"]}
+NAMES.update({3: ["pressure", "density", "curvature"], 6: ["vapor_density", "liquid_density"]})
+SI = {"density": 1e30 / 6.02214076e23, "pressure": 13806490.0, "temperature": 1.0}
+SI.update({"vapor_density": SI["density"], "liquid_density": SI["density"]})
+
+
+def floats(line: str) -> List[float]:
+    return [struct.unpack(">d", bytes.fromhex(word))[0] for word in line.split()[2:5]]
+
+
+def objects(ran: Ran) -> List[Dict[str, Any]]:
+    return [json.loads(line) for line in ran.text.splitlines()]
+
+
+class Calculations(unittest.TestCase):
+    def test_bits_are_the_oracles(self) -> None:
+        for words, place in ASKED:
+            case = CASES[place]
+            with self.subTest(words=words):
+                (found,) = objects(run(*words, "--bits", "--json"))
+                bits = case.line.split()[2 : 2 + len(NAMES[case.kind])]
+                self.assertEqual(found["values"], dict(zip(NAMES[case.kind], bits)))
+                self.assertEqual((found["kind"], found["status"]), (case.kind, 0))
+                self.assertEqual(found["evaluations"], int(case.line.split()[-1]))
+
+    def test_reduced_and_si(self) -> None:
+        for words, place in ASKED:
+            case = CASES[place]
+            with self.subTest(words=words):
+                (reduced,) = objects(run(*words, "--reduced", "--json"))
+                (si,) = objects(run(*words, "--json"))
+                for name, number in zip(NAMES[case.kind], floats(case.line)):
+                    self.assertEqual(reduced["values"][name], number)
+                    self.assertAlmostEqual(si["values"][name] / (number * SI[name]), 1.0, delta=1e-15)
+
+    def test_csv_parses_back_to_the_same_numbers(self) -> None:
+        for words, _ in ASKED:
+            for option in ([], ["--reduced"], ["--bits"]):
+                with self.subTest(words=words, option=option):
+                    (told,) = objects(run(*words, "--json", *option))
+                    (row,) = csv.DictReader(io.StringIO(run(*words, "--csv", *option).text))
+                    for name, number in told["values"].items():
+                        entry = row[f"{name} [{told['units'][name]}]"]
+                        self.assertEqual(entry if "--bits" in option else float(entry), number)
+                    for name in ("kind", "status", "evaluations"):
+                        self.assertEqual(int(row[name]), told[name])
+                    filled = [name for name, entry in row.items() if entry and "[" in name]
+                    self.assertEqual(len(filled), len(told["values"]))
+
+    def test_readable(self) -> None:
+        ran = run(*ASKED[0][0])
+        self.assertEqual((ran.status, ran.err), (0, ""))
+        lines = ran.text.splitlines()
+        # two columns, the first as wide as "at temperature"
+        self.assertTrue(all(line[14:16] == "  " and line[16] != " " for line in lines), ran.text)
+        density = floats(CASES[0].line)[0] * SI["density"]
+        self.assertIn(f"density         {density:.10g} mol/m^3", lines)
+        self.assertIn("kind 1 (density from a start), 9 evaluations", ran.text)
+
+    def test_both_branches(self) -> None:
+        words = ["spinodal", *LPG, "--temperature", "300"]
+        vapor, liquid = objects(run(*words, "--json", "--bits"))
+        self.assertEqual((vapor["phase"], liquid["phase"]), ("vapor", "liquid"))
+        self.assertEqual(list(vapor["values"].values()), CASES[9].line.split()[2:4])
+        self.assertEqual(list(liquid["values"].values()), CASES[10].line.split()[2:4])
+        self.assertEqual(run(*words).text.count("kind 4"), 2)
+
+    def test_starts(self) -> None:
+        (density,) = objects(run(*ASKED[0][0][:-2], "--start", "9963.2344", "--json"))
+        self.assertEqual(density["evaluations"], 5)
+        words = ["spinodal", *LPG, "--temperature", "300", "--start", "1660.539"]
+        (spinodal,) = objects(run(*words, "--json", "--reduced"))
+        self.assertEqual((spinodal["kind"], list(spinodal["values"])), (3, NAMES[3]))
+        for name, number in zip(NAMES[3], floats(CASES[7].line)):
+            self.assertAlmostEqual(spinodal["values"][name] / number, 1.0, delta=1e-8)
+        (critical,) = objects(run("critical", PURE, "--temperature", "350", "--start", "3321.0781", "--json"))
+        self.assertAlmostEqual(critical["values"]["temperature"], floats(CASES[12].line)[0], delta=1e-6)
+
+    def test_names_and_aliases(self) -> None:
+        at = ["--temperature", "300", "--pressure", "5e5"]
+        first = run("stable", "propane=0.6", "butane=0.4", "--kij", "butane,propane=0.003", *at)
+        other = run("stable", "R290=0.6", "n-Butane=0.4", "--kij", "PROPANE,R600=0.003", *at)
+        self.assertEqual((first.status, first.text), (0, other.text))
+
+    def test_names_with_commas(self) -> None:
+        blend = ["1,3-butadiene:425:4.32e6:0.195=0.5", "1,2-butadiene:452:4.36e6:0.166=0.5"]
+        words = ["spinodal", *blend, "--temperature", "300", "--json"]
+        plain = run(*words)
+        self.assertEqual(plain.status, 0)
+        self.assertEqual(run(*words, "--kij", "1,3-butadiene,1,2-butadiene=0").text, plain.text)
+        self.assertNotEqual(run(*words, "--kij", "1,3-butadiene,1,2-butadiene=0.1").text, plain.text)
+
+    def test_components(self) -> None:
+        readable, lines = run("components"), objects(run("components", "--json"))
+        rows = list(csv.DictReader(io.StringIO(run("components", "--csv").text)))
+        self.assertEqual(readable.status, 0)
+        self.assertEqual([row["name"] for row in rows], [line["name"] for line in lines])
+        for row, line in zip(rows, lines):
+            self.assertEqual(float(row["critical pressure [Pa]"]), line["critical_pressure"])
+            self.assertIn(line["name"], readable.text)
+
+
+class Refusals(unittest.TestCase):
+    def refused(self, number: int, *words: str) -> Ran:
+        ran = run(*words)
+        with self.subTest(words=words):
+            self.assertEqual((ran.status, ran.out), (2, b""), ran)
+            self.assertEqual(len(ran.err.splitlines()), 2)
+            self.assertIn(f"refused by {number} ", ran.err)
+            self.assertIn("what to do: ", ran.err)
+        return ran
+
+    def test_by_the_writer(self) -> None:
+        at = ["--temperature", "300", "--pressure", "1e5", "--phase", "liquid"]
+        self.refused(3, "density", *(f"c{i}:300:4e6:0.1={1 / 9}" for i in range(9)), *at)
+        self.refused(12, "density", "x:-1:4e6:0.1", *at)
+        self.refused(13, "density", "propane=0.5", "butane=0.5", "--kij", "propane,butane=nan", *at)
+        self.refused(14, "density", "propane=1.5", "butane=-0.5", *at)
+        self.refused(17, "density", "propane=60", "butane=40", *at)
+        for text in ("nan", "NaN", "inf", "-inf", "1e999", "-1e-3", "-.5", "0", "9" * 5000):
+            self.refused(15, "density", "propane", "--temperature", text, *at[2:])
+            self.refused(15, "spinodal", "propane", "--temperature", text)
+        self.refused(15, "stable", "propane", "--temperature", "300", "--pressure", "-inf")
+        self.refused(15, "critical", "propane", "--start", "nan")
+
+    def test_by_the_equation(self) -> None:
+        self.refused(21, "spinodal", "propane", "--temperature", "300", "--start", "-1e-3")
+        self.refused(22, "spinodal", PURE, "--temperature", "600", "--phase", "vapor")
+        self.refused(26, "spinodal", PURE, "--temperature", "600", "--stability")
+        self.refused(27, "density", PURE, "--temperature", "300", "--pressure", "1e307", "--phase", "vapor")
+
+    def test_for_machines(self) -> None:
+        words = ["spinodal", PURE, "--temperature", "600", "--stability"]
+        ran = run(*words, "--json")
+        (found,) = objects(ran)
+        self.assertEqual((ran.status, found["status"], found["refusal"], found["values"]), (2, 26, "SUPERCRITICAL", {}))
+        self.assertEqual(found["evaluations"], 55)
+        (row,) = csv.DictReader(io.StringIO(run(*words, "--csv").text))
+        self.assertEqual((row["status"], row["refusal"], row["vapor_density [mol/m^3]"]), ("26", "SUPERCRITICAL", ""))
+        (found,) = objects(run("density", "propane=2", *ASKED[0][0][-6:], "--json"))
+        self.assertEqual((found["status"], found["evaluations"]), (17, 0))
+
+
+    def test_one_branch_of_two(self) -> None:
+        def only_vapor(request: Request) -> Record:
+            if request == liquid:
+                raise Refused(22)
+            return answer(request)
+
+        liquid = Request.from_bytes(CASES[10].request())
+        with unittest.mock.patch.object(commands, "answer", only_vapor):
+            ran = run("spinodal", *LPG, "--temperature", "300")
+        self.assertEqual((ran.status, ran.text.count("kind 4"), len(ran.err.splitlines())), (2, 1, 2))
+        self.assertIn("liquid: refused by 22 ", ran.err)
+
+
+class BadUsage(unittest.TestCase):
+    def test_exit_status_1_and_no_traceback(self) -> None:
+        at = ["--temperature", "300", "--pressure", "1e5", "--phase", "liquid"]
+        for words in (
+            [],
+            ["nonsense"],
+            ["density"],
+            ["density", "propane"],
+            ["density", "propane", "--temperature", "300"],
+            ["density", "propane", *at, "--start", "1"],
+            ["density", "propane", *at, "--json", "--csv"],
+            ["density", "propane", *at, "--bits", "--reduced"],
+            ["density", "propane", *at, "--nonsense"],
+            ["density", "propane", *at[:-1], "solid"],
+            ["density", "propane", "butane", *at],
+            ["density", "propane=0.5", "R290=0.5", *at],
+            ["density", "propane=0.5", "Propane:300:4e6:0=0.5", *at],
+            ["density", "propene-ish=1", *at],
+            ["density", "propane=", *at],
+            ["density", "=1", *at],
+            ["density", "", *at],
+            ["density", "propane=0x", *at],
+            ["density", "propane:1:2", *at],
+            ["density", "propane:1:2:x", *at],
+            ["density", "propane=0.5", "butane=0.5", "--kij", "propane,butane", *at],
+            ["density", "propane=0.5", "butane=0.5", "--kij", "propane=0.1", *at],
+            ["density", "propane=0.5", "butane=0.5", "--kij", "propane,propane=0.1", *at],
+            ["density", "propane=0.5", "butane=0.5", "--kij", "propane,ethane=0.1", *at],
+            ["density", "propane=0.5", "butane=0.5", "--kij", "propane,nonsense=0.1", *at],
+            ["density", "propane=0.5", "butane=0.5", "--kij", "propane,butane=0x", *at],
+            ["density", "propane=0.5", "butane=0.5", "--kij", "propane,butane=0.1", "--kij", "butane,propane=0.1", *at],
+            ["density", "propane=0.5", "butane=0.5", "--kij", "propane,butane=0.1", "--kij", "propane,butane=0.1", *at],
+            ["stable", "propane", "--temperature", "0x", "--pressure", "1e5"],
+            ["stable", "propane", "--temperature", "", "--pressure", "1e5"],
+            ["spinodal", "propane=0.5", "butane=0.5", "--temperature", "300", "--stability"],
+            ["spinodal", "propane", "--temperature", "300", "--stability", "--phase", "liquid"],
+            ["critical", "propane", "butane"],
+            ["write"],
+            ["write", "nonsense"],
+            ["record"],
+            ["answer"],
+            ["record", "/nowhere/file"],
+            ["answer", "/nowhere/file"],
+            ["answer", "/"],
+            ["replay", "/nowhere/file"],
+            ["write", "critical", "propane", "-o", "/nowhere/file"],
+        ):
+            with self.subTest(words=words):
+                ran = run(*words)
+                self.assertEqual((ran.status, ran.out), (1, b""))
+                self.assertTrue(ran.err)
+                self.assertNotIn("Traceback", ran.err)
+
+    def test_close_names_are_suggested(self) -> None:
+        self.assertIn("propane", run("critical", "propan").err)
+
+    def test_text_that_is_no_text(self) -> None:
+        # as a terminal hands on bytes that are not UTF-8
+        ran = run("critical", os.fsdecode(b"prop\xff\xfe"))
+        self.assertEqual(ran.status, 1)
+        self.assertEqual(run("record", os.fsdecode(b"/nowhere/\xff")).status, 1)
+        ran = run("critical", os.fsdecode(b"\xff:300:4e6:0.1"))
+        self.assertEqual((ran.status, "\\udcff" in ran.text), (0, True))
+
+
+class Files(unittest.TestCase):
+    def setUp(self) -> None:
+        folder = tempfile.TemporaryDirectory()
+        self.addCleanup(folder.cleanup)
+        self.folder = Path(folder.name)
+
+    def file(self, name: str, data: bytes) -> str:
+        path = self.folder / name
+        path.write_bytes(data)
+        return str(path)
+
+    def test_write_writes_the_block_of_document_01(self) -> None:
+        for words, place in ASKED:
+            case = CASES[place]
+            with self.subTest(words=words):
+                ran = run("write", *words)
+                self.assertEqual((ran.status, ran.out, ran.err), (0, case.request(), ""))
+                path = self.folder / "request"
+                self.assertEqual(run("write", *words, "-o", str(path))[:2], (0, b""))
+                self.assertEqual(path.read_bytes(), case.request())
+
+    def test_write_both_branches(self) -> None:
+        ran = run("write", "spinodal", *LPG, "--temperature", "300")
+        self.assertEqual(ran.out, CASES[9].request() + CASES[10].request())
+
+    def test_write_refused_writes_nothing(self) -> None:
+        path = self.folder / "none"
+        ran = run("write", "critical", "propane", "--temperature", "-1", "-o", str(path))
+        self.assertEqual((ran.status, ran.out, path.exists()), (2, b"", False))
+        self.assertIn("refused by 15 ", ran.err)
+
+    def test_answer_prints_the_oracles_lines(self) -> None:
+        stored = PROJECT / "crates" / "answers"
+        ran = run("answer", str(stored / "stdin"), "--bits")
+        self.assertEqual(ran.text, (stored / "stdout").read_text())
+        self.assertEqual(ran.status, 2)
+        self.assertIn("short", ran.err)
+
+    def test_answer_in_other_forms(self) -> None:
+        data = b"".join(case.request() for case in CASES) + b"\x09\x01" + bytes(640)
+        first, second = self.file("first", data), self.file("second", CASES[0].request() + bytes(3))
+        ran = run("answer", first, second)
+        self.assertEqual((ran.status, len(ran.text.splitlines())), (2, len(CASES) + 2))
+        self.assertIn(f"{first}:{len(CASES) + 1}  kind 9", ran.text)
+        self.assertIn("refused by 2: ", ran.text)
+        self.assertIn("short: 3 bytes after 1 requests, a request has 642", ran.err)
+        found = objects(run("answer", first, second, "--json", "--bits"))
+        rows = list(csv.DictReader(io.StringIO(run("answer", first, second, "--csv", "--bits").text)))
+        self.assertEqual(len(rows), len(found))
+        for case, told, row in zip(CASES, found, rows):
+            self.assertEqual((told["kind"], told["status"]), (case.kind, case.status))
+            self.assertEqual((int(row["kind"]), int(row["status"])), (case.kind, case.status))
+            self.assertEqual(told["evaluations"], int(case.line.split()[-1]))
+            bits = case.line.split()[2 : 2 + len(NAMES[case.kind])] if case.status == 0 else []
+            self.assertEqual(list(told["values"].values()), bits)
+        self.assertEqual((found[-1]["file"], found[-1]["request"]), (second, 1))
+
+    def test_answer_statuses(self) -> None:
+        good, bad = CASES[0].request(), CASES[-1].request()
+        for expected, names in (
+            (0, [self.file("good", good)]),
+            (2, [self.file("bad", bad + good)]),
+            (1, [self.file("cut", good + b"x")]),
+            (1, [self.file("empty", b"")]),
+            (1, ["/nowhere/file", self.file("good", good)]),
+            (2, ["/nowhere/file", self.file("bad", bad)]),
+        ):
+            with self.subTest(names=names):
+                ran = run("answer", *names)
+                self.assertEqual(ran.status, expected, ran)
+        self.assertEqual(len(run("answer", "/nowhere/file", self.file("good", good)).text.splitlines()), 1)
+
+    def record(self, kind: int, status: int, values: "tuple[float, float, float]", evaluations: int) -> bytes:
+        return struct.pack("<QBB6xQdddQ8x", 5, kind, 2, status, *values, evaluations)
+
+    def test_record(self) -> None:
+        answered = self.record(3, 0, (0.5, 0.001, -2.0), 7)
+        ran = run("record", self.file("record", answered))
+        self.assertEqual((ran.status, ran.err), (0, ""))
+        lines = {line[:13].strip(): line[13:].split() for line in ran.text.splitlines()}
+        self.assertEqual(lines["ticket"], ["5"])
+        self.assertEqual(lines["kind"][0], "3,")
+        self.assertEqual(lines["queue"], ["2"])
+        self.assertEqual(lines["status"], ["0,", "answered"])
+        self.assertEqual(lines["pressure"], ["6903245", "Pa"])
+        self.assertEqual(lines["density"], ["1660.539067", "mol/m^3"])
+        self.assertEqual(lines["curvature"][1], "Pa/(mol/m^3)^2")
+        self.assertEqual(lines["evaluations"], ["7"])
+        (found,) = objects(run("record", self.file("record", answered), "--json", "--reduced"))
+        self.assertEqual(found["values"], {"pressure": 0.5, "density": 0.001, "curvature": -2.0})
+        self.assertEqual((found["ticket"], found["queue"], found["status"], found["evaluations"]), (5, 2, 0, 7))
+
+    def test_records_one_after_another(self) -> None:
+        data = self.record(3, 0, (0.5, 0.001, -2.0), 7) + self.record(2, 17, (0.0, 0.0, 0.0), 0) + b"xyz"
+        name = self.file("records", data)
+        ran = run("record", name)
+        self.assertEqual(ran.status, 2)
+        self.assertIn("17, refused: the fractions do not add up to 1", ran.text)
+        self.assertIn("percentages", ran.text)
+        self.assertIn("short: 3 bytes after 2 records, a record has 64", ran.err)
+        rows = list(csv.DictReader(io.StringIO(run("record", name, "--csv").text)))
+        told = [(row["ticket"], row["status"], row["refusal"]) for row in rows]
+        self.assertEqual(told, [("5", "0", ""), ("5", "17", "SUM_OF_FRACTIONS")])
+        self.assertEqual(float(rows[0]["pressure [Pa]"]), 6903245.0)
+
+    def test_records_of_numbers_not_known_here(self) -> None:
+        nan = float("nan")
+        zeros = (0.0, 0.0, 0.0)
+        records = [self.record(9, 0, (1.0, nan, -0.0), 1), self.record(1, 30, zeros, 0)]
+        records.append(self.record(1, 0, (nan, 0.0, 0.0), 0))
+        name = self.file("later", b"".join(records))
+        ran = run("record", name)
+        self.assertEqual(ran.status, 2)
+        self.assertIn("9, unknown kind", ran.text)
+        self.assertIn("3FF0000000000000", ran.text)
+        self.assertIn("30, refused", ran.text)
+        found = objects(run("record", name, "--json"))
+        self.assertEqual(list(found[0]["values"]), ["value_1", "value_2", "value_3"])
+        bits = ["3FF0000000000000", "7FF8000000000000", "8000000000000000"]
+        self.assertEqual(list(found[0]["values"].values()), bits)
+        self.assertEqual((found[1]["status"], found[1]["refusal"]), (30, "REFUSAL_30"))
+        self.assertEqual(found[2]["values"], {"density": None})
+        self.assertEqual(run("record", name, "--csv").status, 2)
