@@ -9,11 +9,9 @@ import sys
 from typing import Any, List, Optional
 
 from . import __version__, commands, components, files, plot, replay
-from .arguments import Parser, Usage, blend_arguments, blend_of
+from .arguments import Parser, Usage
 from .output import complain, tell
 from .refusals import Refused
-
-__all__ = ["Usage", "blend_arguments", "blend_of", "main"]
 
 DESCRIPTION = """\
 Densities, spinodals and critical points of blends by the Peng-Robinson equation of state.

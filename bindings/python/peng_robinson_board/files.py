@@ -165,6 +165,7 @@ def run_answer(arguments: argparse.Namespace) -> int:
     machine = Machine(arguments, ["file", "request"]) if arguments.json or arguments.csv else None
     progress = Progress(pieces.expected)
     seen = refused = 0
+    numbers = set()
     try:
         for name, place, piece in pieces:
             request = Request.from_bytes(piece)
@@ -178,7 +179,9 @@ def run_answer(arguments: argparse.Namespace) -> int:
             else:
                 print(answer_line(outcome, pieces.label(name, place), arguments))
             seen += 1
-            refused += outcome.status != 0
+            if outcome.status != 0:
+                refused += 1
+                numbers.add(outcome.status)
             progress.step(seen)
     finally:
         progress.end()
@@ -186,6 +189,8 @@ def run_answer(arguments: argparse.Namespace) -> int:
         print("short")
     if refused:
         complain(f"{arguments.prog}: {refused} of {seen} requests were refused")
+        for number in sorted(numbers):
+            complain(f"{arguments.prog}: {number} ({refusals.name(number)}): what to do: {refusals.remedy(number)}")
     return _status(pieces.faults, refused)
 
 

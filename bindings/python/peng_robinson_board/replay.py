@@ -2,6 +2,7 @@
 replay_calls prints them (crates/call_lines)."""
 import argparse
 import json
+import struct
 import sys
 from dataclasses import dataclass
 from typing import Any, Iterator, List, Optional, TextIO
@@ -13,8 +14,9 @@ from .record import bits
 from .refusals import Refused
 from .request import Request
 
-# of the list's binary form, which the programs read: a call's header, and the longest record buffer of a turn
-HEADER_BYTES = 40
+# the binary form of a list, which the programs read (crates/calls/specs/Calls.antt): what a call is by its number, and
+# the longest record buffer of a turn
+NUMBERS = {"submit": 0, "turn": 1, "look": 2}
 LONGEST_RECORD = 256
 
 FORM = """\
@@ -39,9 +41,15 @@ class Call:
     record_length: int = RECORD_BYTES
     times: int = 1
 
+    def to_bytes(self) -> bytes:
+        """One such call in the list's binary form: five numbers, and the block of a submit."""
+        kind, n, block = (self.request.kind, self.request.n, self.request.block) if self.request is not None else (0, 0, b"")
+        length = self.record_length if self.what == "turn" else len(block)
+        return struct.pack("<5Q", NUMBERS[self.what], self.queue, kind, n, length) + block
+
     def size(self) -> int:
-        """Its bytes in the list's binary form."""
-        return self.times * (HEADER_BYTES + (len(self.request.block) if self.request is not None else 0))
+        """The bytes of all of them."""
+        return self.times * len(self.to_bytes())
 
 
 def _number(word: str) -> int:

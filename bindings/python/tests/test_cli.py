@@ -321,6 +321,12 @@ class Files(unittest.TestCase):
                 self.assertEqual(ran.status, expected, ran)
         self.assertEqual(len(run("answer", "/nowhere/file", self.file("good", good)).text.splitlines()), 1)
 
+    def test_answer_tells_what_to_do_once_for_each_refusal(self) -> None:
+        refused = [case for case in CASES if case.status != 0]
+        ran = run("answer", self.file("refused", b"".join(case.request() for case in refused * 2)))
+        told = [line for line in ran.err.splitlines() if "what to do" in line]
+        self.assertEqual([int(line.split()[2]) for line in told], sorted({case.status for case in refused}))
+
     def record(self, kind: int, status: int, values: "tuple[float, float, float]", evaluations: int) -> bytes:
         return struct.pack("<QBB6xQdddQ8x", 5, kind, 2, status, *values, evaluations)
 

@@ -13,7 +13,8 @@ import unittest
 from pathlib import Path
 
 import peng_robinson_board as board
-from peng_robinson_board import calculations, cli, components, plot
+from peng_robinson_board import calculations, cli, components, curves, plot
+from peng_robinson_board.arguments import Usage
 from peng_robinson_board.units import DENSITY, GAS_CONSTANT
 
 try:
@@ -74,7 +75,7 @@ class Isotherms(unittest.TestCase):
                 with self.subTest(temperature=one["temperature"], phase=branch["phase"]):
                     densities, pressures = branch["densities"], branch["pressures"]
                     self.assertEqual(branch["dropped"], 0)
-                    self.assertGreaterEqual(len(densities), plot.BRANCH_POINTS)
+                    self.assertGreaterEqual(len(densities), curves.BRANCH_POINTS)
                     self.assertTrue(all(low < high for low, high in zip(densities, densities[1:])))
                     self.assertTrue(all(low < high for low, high in zip(pressures, pressures[1:])))
                     self.assertLessEqual(pressures[-1], highest)
@@ -100,7 +101,7 @@ class Isotherms(unittest.TestCase):
                 self.assertTrue(liquid["density"] < on_liquid[0] < 1.02 * liquid["density"])
 
     def test_one_component(self):
-        numbers = plot.isotherms(PROPANE, TEMPERATURES)
+        numbers = curves.isotherms(PROPANE, TEMPERATURES)
         self.assertEqual([one["temperature"] for one in numbers["isotherms"]], TEMPERATURES)
         self.check_branches(PROPANE, numbers)
         self.check_spinodals(PROPANE, numbers)
@@ -110,7 +111,7 @@ class Isotherms(unittest.TestCase):
         self.assertEqual(numbers["notes"], [])
 
     def test_critical_point(self):
-        critical = plot.isotherms(PROPANE, [300.0])["critical_point"]
+        critical = curves.isotherms(PROPANE, [300.0])["critical_point"]
         filed = PROPANE.components[0]
         self.assertAlmostEqual(critical["temperature"] / filed.critical_temperature, 1.0, delta=1e-3)
         self.assertAlmostEqual(critical["pressure"] / filed.critical_pressure, 1.0, delta=1e-3)
@@ -120,18 +121,18 @@ class Isotherms(unittest.TestCase):
 
     def test_near_critical_temperatures(self):
         critical = calculations.critical_point(PROPANE.components[0]).temperature
-        numbers = plot.isotherms(PROPANE, [0.9999 * critical, 1.0001 * critical])
+        numbers = curves.isotherms(PROPANE, [0.9999 * critical, 1.0001 * critical])
         self.check_branches(PROPANE, numbers)
         self.assertEqual([one["spinodals"] is None for one in numbers["isotherms"]], [False, True])
 
     def test_line_through_the_spinodals(self):
-        curve = plot.isotherms(PROPANE, TEMPERATURES)["spinodal_curve"]
+        curve = curves.isotherms(PROPANE, TEMPERATURES)["spinodal_curve"]
         self.assertEqual(curve[0]["temperature"], 280.0)
         self.assertTrue(all(low["temperature"] < high["temperature"] for low, high in zip(curve, curve[1:])))
-        self.assertEqual(plot.isotherms(PROPANE, [380.0])["spinodal_curve"], [])
+        self.assertEqual(curves.isotherms(PROPANE, [380.0])["spinodal_curve"], [])
 
     def test_blend(self):
-        numbers = plot.isotherms(BLEND, [300.0, 360.0, 450.0])
+        numbers = curves.isotherms(BLEND, [300.0, 360.0, 450.0])
         self.check_branches(BLEND, numbers)
         self.check_spinodals(BLEND, numbers)
         self.assertEqual([one["spinodals"] is None for one in numbers["isotherms"]], [False, False, True])
@@ -139,10 +140,10 @@ class Isotherms(unittest.TestCase):
         self.assertTrue(any("kind 7" in note for note in numbers["notes"]))
 
     def test_highest_pressure(self):
-        numbers = plot.isotherms(PROPANE, [300.0, 340.0, 400.0], 1e6)
+        numbers = curves.isotherms(PROPANE, [300.0, 340.0, 400.0], 1e6)
         self.check_branches_end(numbers, 1e6)
         # 1 MPa is below the liquid spinodal at 360 K: only vapour is left
-        branches = plot.isotherms(PROPANE, [360.0], 1e6)["isotherms"][0]["branches"]
+        branches = curves.isotherms(PROPANE, [360.0], 1e6)["isotherms"][0]["branches"]
         self.assertEqual([branch["phase"] for branch in branches], ["vapor"])
 
     def check_branches_end(self, numbers, highest):
@@ -155,23 +156,23 @@ class Isotherms(unittest.TestCase):
         self.assertGreater(calculations.density(PROPANE, 300.0, 2.5e6, "vapor").density, 8000.0)
         spinodal = calculations.spinodal(PROPANE, 300.0, "vapor").density
         pressures = [-1e5, 5e5, 1e6, 2.5e6]
-        branch = plot._branch(PROPANE, 300.0, ("vapor",), pressures, lambda found: found < spinodal)
+        branch = curves._branch(PROPANE, 300.0, ("vapor",), pressures, lambda found: found < spinodal)
         self.assertEqual((branch["pressures"], branch["dropped"]), ([5e5, 1e6], 2))
 
     def test_temperatures_are_drawn_once_and_in_order(self):
-        numbers = plot.isotherms(PROPANE, [340.0, 300.0, 340.0])
+        numbers = curves.isotherms(PROPANE, [340.0, 300.0, 340.0])
         self.assertEqual([one["temperature"] for one in numbers["isotherms"]], [300.0, 340.0])
 
     def test_nothing_to_draw(self):
         for highest in (-1e9, 0.0):
-            with self.subTest(highest), self.assertRaises(cli.Usage):
-                plot.isotherms(PROPANE, [380.0], highest)
+            with self.subTest(highest), self.assertRaises(Usage):
+                curves.isotherms(PROPANE, [380.0], highest)
 
 
 class Dome(unittest.TestCase):
     def check(self, blend, numbers):
         curve = numbers["spinodals"]
-        self.assertEqual(len(curve), plot.DOME_POINTS)
+        self.assertEqual(len(curve), curves.DOME_POINTS)
         for low, high in zip(curve, curve[1:]):
             self.assertLess(low["temperature"], high["temperature"])
             self.assertLess(low["vapor"]["density"], high["vapor"]["density"])
@@ -186,7 +187,7 @@ class Dome(unittest.TestCase):
         for name in ("propane", "carbon dioxide", "ammonia", "hydrogen", "helium", "R134a"):
             with self.subTest(name):
                 blend = board.Blend.pure(components.find(name))
-                numbers = plot.dome(blend)
+                numbers = curves.dome(blend)
                 self.check(blend, numbers)
                 critical, last = numbers["critical_point"], numbers["spinodals"][-1]
                 self.assertLess(last["temperature"], critical["temperature"])
@@ -196,8 +197,8 @@ class Dome(unittest.TestCase):
                 self.assertAlmostEqual(coldest / critical["temperature"], 0.5, delta=1e-9)
 
     def test_kind_6_agrees(self):
-        numbers = plot.dome(PROPANE)
-        self.assertEqual(len(numbers["stability_spinodals"]), plot.DOME_POINTS // plot.STABILITY_EVERY)
+        numbers = curves.dome(PROPANE)
+        self.assertEqual(len(numbers["stability_spinodals"]), curves.DOME_POINTS // curves.STABILITY_EVERY)
         curve = {point["temperature"]: point for point in numbers["spinodals"]}
         for point in numbers["stability_spinodals"]:
             for phase in ("vapor", "liquid"):
@@ -207,7 +208,7 @@ class Dome(unittest.TestCase):
         self.assertEqual(numbers["notes"], [])
 
     def test_tells_where_kind_6_does_not_agree(self):
-        numbers = plot.dome(PROPANE, 150.0)
+        numbers = curves.dome(PROPANE, 150.0)
         coldest = numbers["stability_spinodals"][0]
         # kind 4's is the liquid spinodal, as the slope shows; kind 6 has not come to it
         self.check(PROPANE, numbers)
@@ -215,7 +216,7 @@ class Dome(unittest.TestCase):
         self.assertTrue(any(note.startswith("Kind 6 comes to other densities") for note in numbers["notes"]))
 
     def test_blend(self):
-        numbers = plot.dome(BLEND)
+        numbers = curves.dome(BLEND)
         self.check(BLEND, numbers)
         self.assertIsNone(numbers["critical_point"])
         self.assertEqual(numbers["stability_spinodals"], [])
@@ -224,10 +225,10 @@ class Dome(unittest.TestCase):
         self.assertAlmostEqual(last["liquid"]["density"] / last["vapor"]["density"], 1.0, delta=0.04)
 
     def test_lowest_temperature(self):
-        self.assertEqual(plot.dome(PROPANE, 250.0)["spinodals"][0]["temperature"], 250.0)
+        self.assertEqual(curves.dome(PROPANE, 250.0)["spinodals"][0]["temperature"], 250.0)
         for lowest in (369.89, 400.0):
-            with self.subTest(lowest), self.assertRaises(cli.Usage):
-                plot.dome(PROPANE, lowest)
+            with self.subTest(lowest), self.assertRaises(Usage):
+                curves.dome(PROPANE, lowest)
 
 
 class Convergence(unittest.TestCase):
@@ -246,7 +247,7 @@ class Convergence(unittest.TestCase):
     def test_ends_at_the_density_handed_out(self):
         for search in self.SEARCHES:
             with self.subTest(search):
-                numbers = plot.convergence(BLEND, *search)
+                numbers = curves.convergence(BLEND, *search)
                 record = self.record_of_the_board(*search)
                 self.assertEqual(record.status, 0)
                 same_bits = struct.pack("<d", DENSITY.to_si(record.values[0]))
@@ -259,20 +260,20 @@ class Convergence(unittest.TestCase):
     def test_every_evaluation_is_looked_at_once(self):
         for search in self.SEARCHES:
             with self.subTest(search):
-                numbers = plot.convergence(BLEND, *search)
+                numbers = curves.convergence(BLEND, *search)
                 looks, answer = numbers["looks"], numbers["answer"]
                 self.assertEqual([look["evaluations"] for look in looks], list(range(1, answer["evaluations"] + 1)))
                 for look in looks:
                     self.assertEqual(look["distance"], abs(look["density"] - answer["density"]))
                 self.assertGreater(looks[0]["distance"], looks[-1]["distance"])
                 self.assertLess(looks[-1]["distance"], 1e-6 * answer["density"])
-        first = plot.convergence(BLEND, 300.0, 5e5, 4000.0)["looks"][0]
+        first = curves.convergence(BLEND, 300.0, 5e5, 4000.0)["looks"][0]
         self.assertAlmostEqual(first["density"], 4000.0, delta=1e-9)
 
     def test_refused(self):
         for number, *search in ((21, 300.0, -5.0, "vapor"), (15, 300.0, math.nan, "liquid"), (15, 0.0, 1e5, "liquid")):
             with self.subTest(search), self.assertRaises(board.Refused) as caught:
-                plot.convergence(PROPANE, *search)
+                curves.convergence(PROPANE, *search)
             self.assertEqual(caught.exception.number, number)
 
 
@@ -306,8 +307,8 @@ class InFolder(unittest.TestCase):
 class Json(InFolder):
     def test_numbers_are_those_collected(self):
         for words, numbers in (
-            (ISOTHERMS, plot.isotherms(PROPANE, TEMPERATURES)),
-            (DOME, plot.dome(PROPANE)),
+            (ISOTHERMS, curves.isotherms(PROPANE, TEMPERATURES)),
+            (DOME, curves.dome(PROPANE)),
         ):
             with self.subTest(words):
                 status, said, told = run([*words, "--json"])
@@ -469,7 +470,7 @@ class Pictures(InFolder):
                 self.assertEqual(run(["plot", "dome", f"{name}:369.83:4.248e6:0.1523", "-o", "x.png"]), (0, "", ""))
 
     def test_same_numbers_make_the_same_file(self):
-        numbers = plot.dome(PROPANE)
+        numbers = curves.dome(PROPANE)
         for ending in plot.FORMATS:
             with self.subTest(ending):
                 self.assertEqual(plot.picture(numbers, ending), plot.picture(numbers, ending))
