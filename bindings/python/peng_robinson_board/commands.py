@@ -18,7 +18,7 @@ from .arguments import (
 from .blend import Blend
 from .calculations import answer
 from .kinds import Kind
-from .output import Machine, Outcome, aligned, output_arguments, tell, text, value_pairs
+from .output import Machine, Outcome, aligned, complain, output_arguments, tell, text, value_pairs
 from .refusals import Refused
 from .request import Request
 
@@ -118,9 +118,20 @@ def outcome_of(job: Job) -> Outcome:
         return Outcome(int(job.kind), None, refused.number, fields)
 
 
+def one_spinodal(outcome: Outcome) -> bool:
+    """Whether kind 6 handed out one density twice, as it does far below the critical temperature, where its search for
+    the liquid spinodal comes to the vapour one."""
+    if outcome.kind != Kind.STABILITY_SPINODALS or outcome.record is None or outcome.status != 0:
+        return False
+    vapor, liquid, _ = outcome.record.values
+    return not liquid > vapor * (1.0 + 1e-6)
+
+
 def run_calculation(arguments: argparse.Namespace) -> int:
     task = arguments.task(arguments)
     outcomes = [outcome_of(job) for job in task.jobs]
+    if any(one_spinodal(outcome) for outcome in outcomes):
+        complain(f"{arguments.prog}: both searches came to the one spinodal; without --stability kind 4 searches each branch")
     if arguments.json or arguments.csv:
         machine = Machine(arguments, ["phase"])
         for outcome in outcomes:

@@ -95,6 +95,12 @@ class Calculations(unittest.TestCase):
         self.assertEqual(list(liquid["values"].values()), CASES[10].line.split()[2:4])
         self.assertEqual(run(*words).text.count("kind 4"), 2)
 
+    def test_kind_6_far_below_the_critical_temperature(self) -> None:
+        # the oracle too hands out the vapour density twice at 160 K
+        words = ["spinodal", PURE, "--stability", "--temperature"]
+        self.assertIn("both searches came to the one spinodal", run(*words, "160").err)
+        self.assertEqual(run(*words, "300").err, "")
+
     def test_starts(self) -> None:
         (density,) = objects(run(*ASKED[0][0][:-2], "--start", "9963.2344", "--json"))
         self.assertEqual(density["evaluations"], 5)
