@@ -1,0 +1,111 @@
+//! Means, deviations, Welch's t-test and the comparison of two shares.
+
+/// |t| above which side-channel practice takes two sets of times for different (TVLA, test vector leakage
+/// assessment).
+pub const THRESHOLD: f64 = 4.5;
+
+#[derive(Debug, Clone, Copy, PartialEq)]
+pub struct Summary {
+    pub mean: f64,
+    /// the root of the variance with count - 1 as divisor
+    pub deviation: f64,
+    pub median: f64,
+    /// 999 of 1,000 are not above it
+    pub most: f64,
+    pub largest: f64,
+}
+
+/// Welch's t and its degrees of freedom by Welch and Satterthwaite.
+#[derive(Debug, Clone, Copy, PartialEq)]
+pub struct Welch {
+    pub means: [f64; 2],
+    pub t: f64,
+    pub degrees: f64,
+}
+
+fn mean(numbers: &[f64]) -> f64 {
+    numbers.iter().sum::<f64>() / numbers.len() as f64
+}
+
+fn variance(numbers: &[f64]) -> f64 {
+    let mean = mean(numbers);
+    let squares: f64 = numbers.iter().map(|x| (x - mean) * (x - mean)).sum();
+    squares / (numbers.len() as f64 - 1.0)
+}
+
+fn sorted(numbers: &[f64]) -> Vec<f64> {
+    let mut sorted = numbers.to_vec();
+    sorted.sort_by(f64::total_cmp);
+    sorted
+}
+
+/// None of fewer than two numbers.
+pub fn summary(numbers: &[f64]) -> Option<Summary> {
+    if numbers.len() < 2 {
+        return None;
+    }
+    let sorted = sorted(numbers);
+    let at = |place: usize| sorted.get(place).copied();
+    Some(Summary {
+        mean: mean(numbers),
+        deviation: variance(numbers).sqrt(),
+        median: (at((sorted.len() - 1) / 2)? + at(sorted.len() / 2)?) / 2.0,
+        most: at((sorted.len() * 999).div_ceil(1000) - 1)?,
+        largest: at(sorted.len() - 1)?,
+    })
+}
+
+/// None where either side has fewer than two numbers. Where neither side varies, t is 0 for equal means, else
+/// infinite.
+pub fn welch(first: &[f64], second: &[f64]) -> Option<Welch> {
+    if first.len() < 2 || second.len() < 2 {
+        return None;
+    }
+    let (n, m) = (first.len() as f64, second.len() as f64);
+    let (u, v) = (variance(first) / n, variance(second) / m);
+    let means = [mean(first), mean(second)];
+    let difference = means[0] - means[1];
+    let (t, degrees) = if u + v > 0.0 {
+        let degrees = (u + v) * (u + v) / (u * u / (n - 1.0) + v * v / (m - 1.0));
+        (difference / (u + v).sqrt(), degrees)
+    } else if difference == 0.0 {
+        (0.0, n + m - 2.0)
+    } else {
+        (f64::INFINITY.copysign(difference), n + m - 2.0)
+    };
+    Some(Welch { means, t, degrees })
+}
+
+/// Both sides without the numbers outside of two limits, which leave out that share of all of them at either end.
+/// The limits are the same for both sides. Interruptions of milliseconds would otherwise hide differences of
+/// nanoseconds.
+pub fn cropped(first: &[f64], second: &[f64], share: f64) -> (Vec<f64>, Vec<f64>) {
+    let all = sorted(&[first, second].concat());
+    let out = (share * all.len() as f64) as usize;
+    let least = all.get(out);
+    let most = all
+        .len()
+        .checked_sub(out + 1)
+        .and_then(|place| all.get(place));
+    let (Some(&least), Some(&most)) = (least, most) else {
+        return (Vec::new(), Vec::new());
+    };
+    let between = |numbers: &[f64]| {
+        let kept = numbers.iter().filter(|&&x| (least..=most).contains(&x));
+        kept.copied().collect()
+    };
+    (between(first), between(second))
+}
+
+/// The z of two counts out of two totals, by their common share; 0 where none or all were counted.
+pub fn two_shares(counts: [usize; 2], totals: [usize; 2]) -> f64 {
+    let [a, b] = counts.map(|count| count as f64);
+    let [n, m] = totals.map(|total| total as f64);
+    let common = (a + b) / (n + m);
+    let spread = (common * (1.0 - common) * (1.0 / n + 1.0 / m)).sqrt();
+    if spread > 0.0 {
+        (a / n - b / m) / spread
+    } else {
+        0.0
+    }
+}
