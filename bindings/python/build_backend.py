@@ -14,7 +14,7 @@ from peng_robinson_board import __version__, library
 FOLDER = Path(__file__).resolve().parent
 PACKAGE = "peng_robinson_board"
 NAME = f"{PACKAGE}-{__version__}"
-SOURCES = ("*.py", "*.csv")
+SOURCES = ("*.py", "*.csv", "py.typed")
 
 METADATA = f"""\
 Metadata-Version: 2.1

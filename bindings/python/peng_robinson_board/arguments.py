@@ -1,7 +1,7 @@
 """What the subcommands of the command line share: the parser, numbers, and the words that name a blend."""
 import argparse
 import re
-from typing import Any, NoReturn, Optional, Tuple
+from typing import Any, List, NoReturn, Optional, Tuple
 
 from . import components
 from .blend import Blend, Component
@@ -105,7 +105,8 @@ def _pair_of(word: str, names: str, blend: Tuple[Component, ...]) -> Tuple[str, 
 
 def blend_of(arguments: argparse.Namespace) -> Blend:
     """The blend that the words and --kij name; raises `Usage`. The numbers are left to the proved writer."""
-    parts, fractions = [], []
+    parts: List[Component] = []
+    fractions: List[float] = []
     for word in arguments.components:
         name, equals, fraction = word.rpartition("=")
         if not equals:

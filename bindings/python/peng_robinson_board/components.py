@@ -43,7 +43,7 @@ class UnknownComponent(KeyError):
 
     def __str__(self) -> str:
         # KeyError's own puts quotes round the text
-        return self.args[0]
+        return str(self.args[0])
 
 
 @functools.lru_cache(maxsize=None)
@@ -79,7 +79,7 @@ def table() -> Dict[str, Entry]:
 
 def citations() -> Dict[str, str]:
     """The publications by their keys."""
-    return dict(found.groups() for found in map(_SOURCE.fullmatch, _lines()) if found)
+    return {found[1]: found[2] for found in map(_SOURCE.fullmatch, _lines()) if found}
 
 
 def _folded(name: str) -> str:

@@ -165,10 +165,10 @@ def _subcritical_branches(
     """The vapour branch from near pressure 0 up to its spinodal, the liquid one from its spinodal up."""
     pressures = sorted(_towards(vapor["pressure"], 1e-3 * vapor["pressure"], BRANCH_POINTS))
     pressures = [pressure for pressure in pressures if pressure <= highest]
-    branches = [_branch(blend, temperature, ("vapor",), pressures, lambda found: found < vapor["density"])]
+    branches = [_branch(blend, temperature, ("vapor",), pressures, lambda found: bool(found < vapor["density"]))]
     if liquid["pressure"] < highest:
         pressures = _towards(liquid["pressure"], highest, BRANCH_POINTS)
-        branches.append(_branch(blend, temperature, ("liquid",), pressures, lambda found: found > liquid["density"]))
+        branches.append(_branch(blend, temperature, ("liquid",), pressures, lambda found: bool(found > liquid["density"])))
     return branches
 
 
@@ -183,7 +183,7 @@ def isotherms(blend: Blend, temperatures: Iterable[float], highest_pressure: Opt
     Request.density(blend, top, highest, "liquid")
 
     notes = [] if critical else [NO_CRITICAL_POINT]
-    drawn = []
+    drawn: List[Numbers] = []
     for temperature in sorted(set(temperatures)):
         both = _both_spinodals(blend, temperature)
         if both is not None:

@@ -7,7 +7,7 @@ import shlex
 import subprocess
 import threading
 from pathlib import Path
-from typing import Optional, Sequence, Union
+from typing import Any, Optional, Sequence, Union
 
 BOARD_BYTES = 24_584
 BLOCK_BYTES = 640
@@ -147,6 +147,10 @@ def load() -> ctypes.CDLL:
         return _loaded
 
 
+def _call(name: str, *words: Any) -> int:
+    return int(getattr(load(), name)(*words))
+
+
 def _whole(name: str, value: int) -> int:
     # ctypes would cut a number that does not fit to 64 bits
     if not 0 <= value < 2**64:
@@ -170,24 +174,24 @@ def _listed(values: Sequence[float]) -> "ctypes.Array[ctypes.c_double]":
 def submit(board: bytearray, queue: int, kind: int, n: int, block: Bytes, ticket: ctypes.c_uint64) -> int:
     """0 and the ticket, or a refusal, which leaves board and ticket as they were."""
     words = [_whole("queue", queue), _whole("kind", kind), _whole("N", n)]
-    return load().pr_submit(_lent(board), len(board), *words, _copied(block), len(block), ctypes.byref(ticket))
+    return _call("pr_submit", _lent(board), len(board), *words, _copied(block), len(block), ctypes.byref(ticket))
 
 
 def turn(board: bytearray, record: bytearray) -> int:
     """1 if a record was written, 0 if none, or a refusal, which leaves both as they were."""
-    return load().pr_turn(_lent(board), len(board), _lent(record), len(record))
+    return _call("pr_turn", _lent(board), len(board), _lent(record), len(record))
 
 
 def look(board: bytearray, queue: int, evaluations: ctypes.c_uint64, density: ctypes.c_double) -> int:
     """0 and what the running job has come to, or a refusal, which leaves both numbers as they were."""
     queue = _whole("queue", queue)
-    return load().pr_look(_lent(board), len(board), queue, ctypes.byref(evaluations), ctypes.byref(density))
+    return _call("pr_look", _lent(board), len(board), queue, ctypes.byref(evaluations), ctypes.byref(density))
 
 
 def answer(kind: int, n: int, block: Bytes, record: bytearray) -> int:
     """A whole job without a board: 0 and bytes 16 to 63 of the record, or a refusal and the record as it was."""
     words = [_whole("kind", kind), _whole("N", n)]
-    return load().pr_answer(*words, _copied(block), len(block), _lent(record), len(record))
+    return _call("pr_answer", *words, _copied(block), len(block), _lent(record), len(record))
 
 
 def write_block(
@@ -205,4 +209,4 @@ def write_block(
     """0 and the block written, or a refusal and the block as it was. Numbers are reduced."""
     slices = [word for values in (coefficients, interactions, fractions) for word in (_listed(values), len(values))]
     words = [_whole("kind", kind), _whole("N", n), *slices, _whole("choice", choice)]
-    return load().pr_write_block(*words, temperature, pressure, start, _lent(block), len(block))
+    return _call("pr_write_block", *words, temperature, pressure, start, _lent(block), len(block))

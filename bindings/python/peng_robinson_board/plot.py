@@ -269,7 +269,7 @@ def add_parser(subparsers: Any) -> None:
     plots = subparsers.add_parser("plot", help=what, description=what).add_subparsers(metavar="PLOT", required=True)
 
     def add(name: str, description: str, numbers: Callable[[argparse.Namespace], Numbers]) -> argparse.ArgumentParser:
-        parser = plots.add_parser(name, help=description, description=description)
+        parser: argparse.ArgumentParser = plots.add_parser(name, help=description, description=description)
         blend_arguments(parser)
         parser.add_argument(
             "-o", "--output", metavar="FILE", help=f"picture to write: png, svg or pdf by its ending ({name}.png)"

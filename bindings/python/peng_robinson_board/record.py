@@ -12,7 +12,7 @@ def bits(number: float) -> str:
     """A float's bits in 16 upper-case hexadecimal digits; every NaN is one value."""
     if number != number:
         return "7FF8000000000000"
-    return "%016X" % struct.unpack("<Q", struct.pack("<d", number))
+    return struct.pack(">d", number).hex().upper()
 
 
 @dataclass(frozen=True)
