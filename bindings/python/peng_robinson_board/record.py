@@ -1,6 +1,6 @@
 """Records: the 64 bytes that a finished job leaves, public fields first, then the sealed part (document 01)."""
 import struct
-from dataclasses import dataclass
+from dataclasses import dataclass, field
 from typing import List, Optional, Tuple
 
 from .kinds import Value, describe
@@ -25,6 +25,7 @@ class Record:
     status: int
     values: Tuple[float, float, float]
     evaluations: int
+    data: bytes = field(repr=False, compare=False)
 
     @classmethod
     def from_bytes(cls, data: bytes) -> "Record":
@@ -32,7 +33,11 @@ class Record:
         if len(data) != RECORD_BYTES:
             raise ValueError(f"a record has {RECORD_BYTES} bytes, not {len(data)}")
         ticket, kind, queue, status, first, second, third, evaluations = struct.unpack("<QBB6xQdddQ8x", data)
-        return cls(ticket, kind, queue, status, (first, second, third), evaluations)
+        return cls(ticket, kind, queue, status, (first, second, third), evaluations, bytes(data))
+
+    def to_bytes(self) -> bytes:
+        """The 64 bytes as they came."""
+        return self.data
 
     @property
     def refused(self) -> Optional[Refused]:

@@ -1,11 +1,12 @@
 """The subcommand `replay`: a readable list of calls made on a fresh board, a line for each, as the program
 replay_calls prints them (crates/call_lines)."""
 import argparse
+import contextlib
 import json
 import struct
 import sys
 from dataclasses import dataclass
-from typing import Any, Iterator, List, Optional, TextIO
+from typing import Any, BinaryIO, Iterator, List, Optional, TextIO
 
 from .arguments import Usage
 from .board import Board
@@ -21,6 +22,7 @@ LONGEST_RECORD = 256
 
 FORM = """\
 one call on a line; a # begins a comment:
+  submit QUEUE REQUEST         REQUEST is a file that `prboard write` wrote, 642 bytes
   submit QUEUE KIND N BLOCK    BLOCK is a file with the block's bytes, or `zeros` for 640 zero bytes
   turn [LENGTH [TIMES]]        a turn with a record buffer of LENGTH bytes, 64 where none is given, so many times
   look QUEUE
@@ -59,14 +61,17 @@ def _number(word: str) -> int:
     return value
 
 
+def _file(name: str) -> bytes:
+    with open(name, "rb") as file:
+        return file.read()
+
+
 def _call(words: List[str]) -> Call:
+    if words[0] == "submit" and len(words) == 3:
+        return Call("submit", _number(words[1]), Request.from_bytes(_file(words[2])))
     if words[0] == "submit" and len(words) == 5:
         queue, kind, n = (_number(word) for word in words[1:4])
-        if words[4] == "zeros":
-            block = bytes(BLOCK_BYTES)
-        else:
-            with open(words[4], "rb") as file:
-                block = file.read()
+        block = bytes(BLOCK_BYTES) if words[4] == "zeros" else _file(words[4])
         return Call("submit", queue, Request(kind, n, block))
     if words[0] == "turn" and len(words) <= 3:
         numbers = [_number(word) for word in words[1:]]
@@ -88,8 +93,8 @@ def calls(script: TextIO) -> Iterator[Call]:
             yield call
 
 
-def made(board: Board, call: Call) -> List[Any]:
-    """The answer of one call, as the words of its line."""
+def made(board: Board, call: Call, records: Optional[BinaryIO] = None) -> List[Any]:
+    """The answer of one call, as the words of its line. A record that it hands out goes to `records`."""
     try:
         if call.request is not None:
             return ["ticket", board.submit(call.queue, call.request).number]
@@ -97,7 +102,11 @@ def made(board: Board, call: Call) -> List[Any]:
             look = board.look(call.queue)
             return ["looked", look.evaluations, bits(look.density)]
         record = board.turn(call.record_length)
-        return ["turned", 0] if record is None else ["turned", 1, record.ticket, record.kind, record.queue]
+        if record is None:
+            return ["turned", 0]
+        if records is not None:
+            records.write(record.to_bytes())
+        return ["turned", 1, record.ticket, record.kind, record.queue]
     except Refused as refused:
         return ["refused", refused.number]
 
@@ -113,8 +122,8 @@ def as_json(words: List[Any]) -> str:
     return json.dumps({"answer": words[0], **dict(zip(names[words[0]], words[1:]))})
 
 
-def replay(script: TextIO) -> Iterator[List[Any]]:
-    """The answers to a script's calls on a fresh board."""
+def replay(script: TextIO, records: Optional[BinaryIO] = None) -> Iterator[List[Any]]:
+    """The answers to a script's calls on a fresh board; its records go to `records`, one after the other."""
     board = Board()
     listed = calls(script)
     for call in listed:
@@ -122,21 +131,20 @@ def replay(script: TextIO) -> Iterator[List[Any]]:
             yield ["end", call.size() + sum(later.size() for later in listed)]
             return
         for _ in range(call.times):
-            yield made(board, call)
+            yield made(board, call, records)
 
 
 def run_replay(arguments: argparse.Namespace) -> int:
-    if arguments.script in (None, "-"):
-        if sys.stdin is None:
+    with contextlib.ExitStack() as files:
+        if arguments.script not in (None, "-"):
+            script: TextIO = files.enter_context(open(arguments.script, encoding="utf-8"))
+        elif sys.stdin is not None:
+            script = sys.stdin
+        else:
             raise Usage("standard input is closed")
-        return _print(sys.stdin, arguments)
-    with open(arguments.script, encoding="utf-8") as script:
-        return _print(script, arguments)
-
-
-def _print(script: TextIO, arguments: argparse.Namespace) -> int:
-    for words in replay(script):
-        print(as_json(words) if arguments.json else " ".join(map(str, words)))
+        records = files.enter_context(open(arguments.records, "wb")) if arguments.records is not None else None
+        for words in replay(script, records):
+            print(as_json(words) if arguments.json else " ".join(map(str, words)))
     return 0
 
 
@@ -147,4 +155,5 @@ def add_parser(subparsers: Any) -> None:
     )
     parser.add_argument("script", nargs="?", metavar="SCRIPT", help="a file; standard input where none is named, or -")
     parser.add_argument("--json", action="store_true", help="a JSON object on a line for each call")
+    parser.add_argument("--records", metavar="FILE", help="file for the records that are handed out, 64 bytes each")
     parser.set_defaults(run=run_replay, prog=parser.prog)

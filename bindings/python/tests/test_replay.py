@@ -41,6 +41,22 @@ class Replay(unittest.TestCase):
         path.write_text("\n".join(lines) + "\n", encoding="utf-8")
         return str(path)
 
+    def test_requests_and_records(self) -> None:
+        """A request file submitted, and the record that the schedule and the oracle say, byte for byte."""
+        case = next(case for case in CASES if case.kind == 4 and case.status == 0)
+        request, records = self.folder / "request", self.folder / "records"
+        request.write_bytes(case.request())
+        ran = run("replay", self.script([f"submit 2 {request}", "turn 64 120"]), "--records", str(records))
+        # span 30 in queue 2: turn 29 * 4 + 3
+        self.assertEqual(ran.text.splitlines(), ["ticket 0"] + ["turned 0"] * 118 + ["turned 1 0 4 2", "turned 0"])
+        _, status, *digits, evaluations = case.line.split()
+        sealed = struct.pack("<Q", int(status)) + b"".join(bytes.fromhex(word)[::-1] for word in digits)
+        public = struct.pack("<QBB6x", 0, 4, 2)
+        self.assertEqual(records.read_bytes(), public + sealed + struct.pack("<Q8x", int(evaluations)))
+        request.write_bytes(case.request()[:-1])
+        self.assertEqual(run("replay", self.script([f"submit 2 {request}"])).status, 1)
+        self.assertEqual(run("replay", self.script([]), "--records", "/nowhere/records").status, 1)
+
     def test_stored_run(self) -> None:
         stored = PROJECT / "crates" / "replay_calls"
         script = self.script(self.readable((stored / "stdin").read_bytes()))
