@@ -9,7 +9,7 @@
  *
  * Use. A supplier's numbers become a request block (pr_write_block). The block is submitted to one
  * of the four queues of a board (pr_submit). Turns (pr_turn) serve the queues one after the other,
- * one evaluation of the equation each, and write a record when a job's span is over. Meanwhile the
+ * at most one evaluation of the equation each, and write a record when a job's span is over. The
  * queue's owner may look at the running job (pr_look). pr_answer makes a whole job at once and
  * needs no board. A board is PR_BOARD_BYTES bytes of the caller's memory; all zero is a fresh one.
  * examples/c/density.c shows the calls on a board.
@@ -25,13 +25,18 @@
  * Public and secret. Public are queue, kind, number of components, lengths of buffers, tickets,
  * the first 16 bytes of a record, and what pr_submit, pr_turn, pr_look and pr_answer return. The
  * block, the sealed bytes of a record (16 to 63), what a look shows and what pr_write_block
- * returns belong to the owner of the queue. When a record comes out depends on public fields
- * alone; how long one call takes is not covered by the proofs and may depend on the data.
+ * returns belong to the owner of the queue. The bytes of the board are secret too: they hold the
+ * blocks, also of jobs that have left. With which turn a record comes out depends on public
+ * fields alone; how long one call takes is not covered by the proofs and may depend on the data.
  *
  * Memory. Every pointer must be valid for its length and aligned for its type, and the buffers of
- * one call must not overlap. That is the one thing that the proofs ask of the caller: any numbers
- * and any bytes may stand there. An empty list may be NULL with length 0. Nothing is allocated and
- * no function keeps a pointer: pr_submit copies the block into the board.
+ * one call must not overlap. Any numbers and any bytes may stand there. An empty list may be NULL
+ * with length 0. Nothing is allocated and no function keeps a pointer: pr_submit copies the block
+ * into the board.
+ *
+ * Floats. The thread's floating point must be in its default state: rounding to nearest, subnormal
+ * numbers kept. Linking with -ffast-math may change it. This and the memory are all that is asked
+ * of the caller.
  *
  * Threads. There is no global state. Calls on different boards may run in parallel; one board must
  * not be used from two threads at once.
@@ -61,9 +66,10 @@ extern "C" {
  * Coefficients and interactions are checked in every kind. Values not named are +0.
  */
 
-/* Density at a temperature and pressure. Reads fractions, temperature, pressure and the choice:
-   PR_CHOICE_VAPOR, PR_CHOICE_LIQUID, or PR_CHOICE_START, which reads a starting density in start.
-   Hands out density. */
+/* Density at a temperature and pressure. Reads fractions, temperature, pressure and the choice,
+   which says where the search begins: PR_CHOICE_VAPOR, PR_CHOICE_LIQUID, or PR_CHOICE_START, which
+   reads a starting density in start. Hands out density, which may be of another phase than the one
+   that the search began in. */
 #define PR_KIND_DENSITY 1
 
 /* Density of the stable phase. Reads fractions, temperature and pressure. Hands out density. */
@@ -83,7 +89,8 @@ extern "C" {
 #define PR_KIND_CRITICAL_POINT 5
 
 /* Both spinodals of one component by its stability condition. Choice is the component, 0 to N - 1.
-   Reads temperature. Hands out vapour density and liquid density. */
+   Reads temperature. Hands out vapour density and liquid density. Below about half of the critical
+   temperature both may be the vapour's, the status being 0; kind 4 searches each branch. */
 #define PR_KIND_STABILITY_SPINODALS 6
 
 /*
@@ -138,14 +145,20 @@ extern "C" {
                                            first on, differs from 1 by more than 1e-9 */
 
 /* The equation's: in a record's status. */
-#define PR_REFUSED_STARTING_DENSITY 21    /* starting density 0 or below */
+#define PR_REFUSED_STARTING_DENSITY 21    /* starting density 0 or below, in kind 1 from vapour
+                                             also a pressure of 0 or below */
 #define PR_REFUSED_NOT_CONVERGED 22       /* search not converged */
 #define PR_REFUSED_ITERATION_FAILED 23    /* iteration failed */
-#define PR_REFUSED_BOTH_PHASES_FAILED 24  /* kind 2: neither vapour nor liquid was found */
-#define PR_REFUSED_WRONG_BRANCH 25        /* the spinodal found is of the other branch */
+#define PR_REFUSED_BOTH_PHASES_FAILED 24  /* kind 2: neither vapour nor liquid was found; at high
+                                             pressures the liquid alone is searched, and its own
+                                             refusal given */
+#define PR_REFUSED_WRONG_BRANCH 25        /* the spinodal found has not its branch's curvature,
+                                             above 0 for liquid, below 0 for vapour */
 #define PR_REFUSED_SUPERCRITICAL 26       /* kind 6: no spinodal found within the iterations, as
                                              above the critical temperature */
-#define PR_REFUSED_NOT_FINITE 27          /* a number of the search left the finite range */
+#define PR_REFUSED_NOT_FINITE 27          /* a number that an evaluation yields, or a temperature
+                                             or density after a step, is not finite; in kinds 2, 5
+                                             and 6 a phase or trial may end so unseen */
 
 /*
  * Record: offsets of its numbers. Bytes 0 to 15 are public, 16 to 63 sealed.
@@ -179,7 +192,7 @@ extern "C" {
  * coefficients    critical temperature / K, critical pressure / Pa and acentric factor of each
  *                 component: 3 n floats
  * interactions    k_ij by rows, i below j (k_12, k_13, .., k_23, ..): n (n - 1) / 2 floats
- * fractions       mole fractions: n floats, in every kind
+ * fractions       mole fractions: n floats, in every kind; kinds 5 and 6 do not read them
  * choice, temperature, pressure, start
  *                 conditions, as the kind reads them; those that it does not read may be anything
  * block           PR_BLOCK_BYTES bytes, of any content
@@ -236,7 +249,8 @@ uint64_t pr_look(const uint8_t *board, size_t board_len, uint64_t queue,
                  uint64_t *evaluations, double *density);
 
 /*
- * Makes a whole job at once, without a board.
+ * Makes a whole job at once, without a board. How long it takes shows the evaluations made: where
+ * that must not be seen, use a board.
  *
  * Returns 0, and writes the sealed bytes of the record, 16 to 63, as turns on a board would; bytes
  * 0 to 15 and those from 64 on stay. A refusal of 11 to 17 or 21 to 27 is in the sealed status,

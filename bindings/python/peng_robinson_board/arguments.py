@@ -42,10 +42,30 @@ def pressure_argument(parser: argparse.ArgumentParser) -> None:
     parser.add_argument("--pressure", type=real, required=True, metavar="PA", help="pressure in Pa")
 
 
+PHASES = ("liquid", "vapor")
+
+
+def phase_of(text: str) -> str:
+    """A phase by one name, whichever spelling was given."""
+    return "vapor" if text == "vapour" else text
+
+
+def density_search_arguments(parser: argparse.ArgumentParser) -> None:
+    """The conditions of a density search (kind 1)."""
+    temperature_argument(parser)
+    pressure_argument(parser)
+    begin = parser.add_mutually_exclusive_group(required=True)
+    begin.add_argument("--phase", type=phase_of, choices=PHASES, help="the phase that the search begins in")
+    begin.add_argument("--start", type=real, metavar="DENSITY", help="a density in mol/m^3 that the search begins at")
+
+
 def component_argument(parser: argparse.ArgumentParser) -> None:
-    """One pure component."""
+    """One pure component; more words are taken, to say that it is one."""
     parser.add_argument(
-        "component", help="a name of the table (prboard components) or NAME:TC:PC:OMEGA, critical values in K and Pa"
+        "components",
+        nargs="+",
+        metavar="COMPONENT",
+        help="a name of the table (prboard components) or NAME:TC:PC:OMEGA, critical values in K and Pa",
     )
 
 

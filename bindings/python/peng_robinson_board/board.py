@@ -1,7 +1,7 @@
 """The board of four queues: submit a request, take turns, look at a running job."""
 import ctypes
 import threading
-from typing import NamedTuple, Optional
+from typing import Any, NamedTuple, Optional, Tuple
 
 from . import library
 from .record import Record
@@ -42,8 +42,12 @@ class Board:
         with self._lock:
             return bytes(self._bytes)
 
+    def __reduce__(self) -> Tuple[Any, ...]:
+        # a copy has a lock of its own
+        return Board, (self.to_bytes(),)
+
     def submit(self, queue: int, request: Request) -> Ticket:
-        """Brings a job to a queue; raises `Refused`."""
+        """Brings a job to a queue; raises `Refused` by the first of 6, 1, 2, 3, 8, 4, and nothing has changed then."""
         ticket = ctypes.c_uint64()
         with self._lock:
             number = library.submit(self._bytes, queue, request.kind, request.n, request.block, ticket)
@@ -52,7 +56,8 @@ class Board:
         return Ticket(queue, ticket.value)
 
     def turn(self, record_length: int = library.RECORD_BYTES) -> Optional[Record]:
-        """Serves the queue whose turn it is: the record of the job that came out, or none; raises `Refused`."""
+        """Serves the queue whose turn it is: the record of the job that came out, or none; raises `Refused` by 6 or 5,
+        and nothing has changed then."""
         record = bytearray(record_length)
         with self._lock:
             number = library.turn(self._bytes, record)
@@ -63,7 +68,7 @@ class Board:
         return None
 
     def look(self, queue: int) -> Look:
-        """What the queue's running job has come to; raises `Refused`."""
+        """What the queue's running job has come to; raises `Refused` by the first of 6, 1, 7."""
         evaluations, density = ctypes.c_uint64(), ctypes.c_double()
         with self._lock:
             number = library.look(self._bytes, queue, evaluations, density)

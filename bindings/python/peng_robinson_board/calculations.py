@@ -42,8 +42,8 @@ class StabilitySpinodals:
 
 
 def answer(request: Request) -> Record:
-    """The record of a whole job without a board. Raises `Refused` where the call is refused; what the data or the
-    equation refuse is in the record's status."""
+    """The record of a whole job without a board. Raises `Refused` where the call is refused, by the first of 2, 3, 8;
+    what the data or the equation refuse is in the record's status."""
     data = bytearray(library.RECORD_BYTES)
     number = library.answer(request.kind, request.n, request.block, data)
     if number != 0:
@@ -62,7 +62,8 @@ def _answered(request: Request) -> Tuple[Record, Tuple[float, ...]]:
 
 
 def density(blend: Blend, temperature: float, pressure: float, phase: Phase) -> Density:
-    """Density of a phase, "vapor" or "liquid", or the one that a search from a density in mol/m^3 comes to (kind 1)."""
+    """Density that a search from the vapour or the liquid, or from a density in mol/m^3, comes to (kind 1). It may be
+    of another phase than the one that the search begins in; `stable_density` compares the two."""
     record, (found,) = _answered(Request.density(blend, temperature, pressure, phase))
     return Density(found, record.evaluations, record)
 
@@ -94,6 +95,7 @@ def critical_point(
 
 
 def stability_spinodals(component: Component, temperature: float) -> StabilitySpinodals:
-    """Densities of both spinodals of a component by its stability condition (kind 6)."""
+    """Densities of both spinodals of a component by its stability condition (kind 6). Below about half of the critical
+    temperature both may be the vapour's; `spinodal` searches each branch."""
     record, (vapor, liquid) = _answered(Request.stability_spinodals(component, temperature))
     return StabilitySpinodals(vapor, liquid, record.evaluations, record)

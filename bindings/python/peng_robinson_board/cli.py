@@ -48,7 +48,7 @@ def run_components(arguments: argparse.Namespace) -> int:
     widths = [max(len(row[place]) for row in shown) for place in range(len(header))]
     for row in shown:
         print("  ".join(entry.ljust(width) for entry, width in zip(row, widths)).rstrip())
-    print("\nEntered without the publications at hand: compare the figures with these before a contract rests on them.")
+    print("\nThe figures have not been compared with these publications: do so before a contract rests on them.")
     for key, citation in components.citations().items():
         print(f"{key}: {citation}")
     return 0
@@ -80,6 +80,12 @@ def _let_go() -> None:
             os.dup2(os.open(os.devnull, os.O_WRONLY), stream.fileno())
 
 
+def _prints(arguments: argparse.Namespace) -> bool:
+    """Whether what is asked for goes to standard output; a picture goes to a file, named or not."""
+    picture = hasattr(arguments, "plot") and not arguments.json
+    return not picture and getattr(arguments, "output", None) in (None, "-")
+
+
 def main(words: Optional[List[str]] = None) -> int:
     """Runs a command line and answers its exit status; faults are told on standard error."""
     prog = "prboard"
@@ -98,7 +104,7 @@ def main(words: Optional[List[str]] = None) -> int:
             status = leaving.code if isinstance(leaving.code, int) else 0
         else:
             prog = getattr(arguments, "prog", prog)
-            if closed and getattr(arguments, "output", None) is None:
+            if closed and _prints(arguments):
                 raise Usage("standard output is closed")
             status = arguments.run(arguments)
         sys.stdout.flush()
@@ -122,6 +128,10 @@ def main(words: Optional[List[str]] = None) -> int:
         return 1
     except MemoryError:
         complain(f"{prog}: not enough memory")
+        return 1
+    except Exception as fault:
+        # none is known; a traceback would help no user
+        complain(f"{prog}: a fault of this program: {type(fault).__name__}: {fault}")
         return 1
     finally:
         _let_go()

@@ -6,11 +6,14 @@ from typing import Any, Callable, Dict, List, Optional, Tuple
 
 from . import kinds
 from .arguments import (
+    PHASES,
     Usage,
     blend_arguments,
     blend_of,
     component_argument,
     component_of,
+    density_search_arguments,
+    phase_of,
     pressure_argument,
     real,
     temperature_argument,
@@ -21,14 +24,6 @@ from .kinds import Kind
 from .output import Machine, Outcome, aligned, complain, output_arguments, tell, text, value_pairs
 from .refusals import Refused
 from .request import Request
-
-PHASES = ("liquid", "vapor")
-
-
-def phase_of(text: str) -> str:
-    """A phase by one name, whichever spelling was given."""
-    return "vapor" if text == "vapour" else text
-
 
 @dataclass(frozen=True)
 class Job:
@@ -100,11 +95,14 @@ def spinodal_task(arguments: argparse.Namespace) -> Task:
 
 
 def critical_task(arguments: argparse.Namespace) -> Task:
-    component = component_of(arguments.component)
+    if len(arguments.components) > 1 or "=" in arguments.components[0]:
+        raise Usage("critical takes one component, without a fraction: for blends there is no call yet")
+    component = component_of(arguments.components[0])
     start = (arguments.temperature, arguments.start)
     job = Job(Kind.CRITICAL_POINT, None, lambda: Request.critical_point(component, *start))
-    given = _conditions(Blend.pure(component), None, None, arguments.start)
-    if arguments.temperature is not None:
+    # 0 is none given
+    given = _conditions(Blend.pure(component), None, None, arguments.start or None)
+    if arguments.temperature:
         given.insert(1, ("from temperature", f"{text(arguments.temperature)} K"))
     return Task(given, [job])
 
@@ -119,8 +117,8 @@ def outcome_of(job: Job) -> Outcome:
 
 
 def one_spinodal(outcome: Outcome) -> bool:
-    """Whether kind 6 handed out one density twice, as it does far below the critical temperature, where its search for
-    the liquid spinodal comes to the vapour one."""
+    """Whether kind 6 handed out one spinodal twice, but for the last digits, as it does far below the critical
+    temperature, where its search for the liquid spinodal comes to the vapour one."""
     if outcome.kind != Kind.STABILITY_SPINODALS or outcome.record is None or outcome.status != 0:
         return False
     vapor, liquid, _ = outcome.record.values
@@ -142,7 +140,9 @@ def run_calculation(arguments: argparse.Namespace) -> int:
             if outcome.status == 0:
                 phase = outcome.fields["phase"]
                 by = f"kind {outcome.kind} ({kinds.title(outcome.kind)}), {outcome.evaluations} evaluations"
-                block = [("phase", phase)] if phase is not None else []
+                # of kind 1 it is where the search begins, and the density found may be of the other phase
+                label = "search from" if outcome.kind == Kind.DENSITY else "phase"
+                block = [(label, phase)] if phase is not None else []
                 blocks.append([*block, *value_pairs(outcome, arguments), ("answered by", by)])
         width = max(len(name) for block in blocks for name, _ in block)
         padded = [[(name.ljust(width), said) for name, said in block] for block in blocks]
@@ -176,11 +176,7 @@ def run_write(arguments: argparse.Namespace) -> int:
 
 def _density_arguments(parser: argparse.ArgumentParser) -> None:
     blend_arguments(parser)
-    temperature_argument(parser)
-    pressure_argument(parser)
-    begin = parser.add_mutually_exclusive_group(required=True)
-    begin.add_argument("--phase", type=phase_of, choices=PHASES, help="the phase that the search begins in")
-    begin.add_argument("--start", type=real, metavar="DENSITY", help="a density in mol/m^3 that the search begins at")
+    density_search_arguments(parser)
 
 
 def _stable_arguments(parser: argparse.ArgumentParser) -> None:

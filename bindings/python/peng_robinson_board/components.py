@@ -1,10 +1,11 @@
 """Gases of the bottled-gas trade by name, from components.csv, and components written as `name:Tc:pc:omega`.
-The figures of the table were entered without the publications at hand and are to be compared with them before a
-contract rests on them; commercial filings carry the supplier's own constants (`name:Tc:pc:omega`, K and Pa)."""
+The figures of the table have not been compared with the publications: do so before a contract rests on them. Filings
+carry the supplier's own constants (`name:Tc:pc:omega`, K and Pa)."""
 import csv
 import difflib
 import functools
 import re
+import textwrap
 from dataclasses import dataclass
 from importlib import resources
 from typing import Dict, Mapping, Tuple
@@ -36,14 +37,14 @@ class UnknownComponent(KeyError):
     """A name that the table does not have; the text suggests names that are close to it."""
 
     def __init__(self, name: str, suggestions: Tuple[str, ...]) -> None:
-        near = f"; close to it: {', '.join(suggestions)}" if suggestions else ""
-        super().__init__(f"no component {name!r} in the table{near} (or give your own as name:Tc:pc:omega, K and Pa)")
+        super().__init__(name, suggestions)
         self.name = name
         self.suggestions = suggestions
 
     def __str__(self) -> str:
-        # KeyError's own puts quotes round the text
-        return str(self.args[0])
+        near = f"; close to it: {', '.join(self.suggestions)}" if self.suggestions else ""
+        name = textwrap.shorten(self.name, 60, placeholder="...") or self.name
+        return f"no component {name!r} in the table{near} (or give your own as name:Tc:pc:omega, K and Pa)"
 
 
 @functools.lru_cache(maxsize=None)
@@ -107,7 +108,8 @@ def parse(text: str) -> Component:
     if ":" not in text:
         return find(text)
     name, *figures = text.split(":")
-    if not name.strip() or len(figures) != 3:
+    control = any(ord(letter) < 32 or ord(letter) == 127 for letter in name)
+    if not name.strip() or control or len(figures) != 3:
         raise ValueError(f"component {text!r} is not of the form name or name:Tc:pc:omega (K, Pa)")
     numbers = []
     for meaning, figure in zip(("critical temperature", "critical pressure", "acentric factor"), figures):

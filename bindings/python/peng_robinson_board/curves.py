@@ -1,5 +1,5 @@
-"""The numbers of `prboard plot`, collected from the proved calls, in SI: isotherms between their spinodals, the spinodal
-dome over temperature, and a density search as looks at a board show it."""
+"""The numbers of `prboard plot`, collected from the proved calls, in SI: isotherms up to their spinodals, the spinodal dome
+over temperature, and a density search as looks at a board show it."""
 from typing import Any, Callable, Dict, Iterable, List, Optional, Tuple, Union
 
 from . import calculations

@@ -78,14 +78,15 @@ class Pieces:
 
 
 class Progress:
-    """A bar on standard error, where that is a terminal and the lines go elsewhere."""
+    """A bar on standard error where that is a terminal. Lines that go to a terminal too push it down."""
 
     WIDTH = 40
 
     def __init__(self, expected: Optional[int]) -> None:
         self.expected = expected
         self.shown = ""
-        self.on = sys.stderr is not None and sys.stderr.isatty() and not sys.stdout.isatty()
+        self.on = sys.stderr is not None and sys.stderr.isatty() and expected != 1
+        self.beside_lines = self.on and sys.stdout.isatty()
 
     def step(self, done: int) -> None:
         if not self.on:
@@ -95,11 +96,17 @@ class Progress:
             bar = "#" * int(self.WIDTH * part)
             line = f"[{bar:<{self.WIDTH}}] {part:4.0%} of {self.expected} requests"
         else:
-            line = f"{done // 100 * 100} requests"
-        if line != self.shown:
+            line = f"{done} requests"
+        if line != self.shown or self.beside_lines:
             self.shown = line
             sys.stderr.write(f"\r{line}")
             sys.stderr.flush()
+
+    def before_line(self) -> None:
+        """Makes room for a line on the same terminal."""
+        if self.beside_lines:
+            sys.stdout.flush()
+            self.end()
 
     def end(self) -> None:
         if self.shown:
@@ -133,6 +140,9 @@ def run_record(arguments: argparse.Namespace) -> int:
     seen = refused = 0
     for name, place, piece in pieces:
         record = Record.from_bytes(piece)
+        if not record.plausible():
+            pieces.fault(f"{name}: bytes {RECORD_BYTES * (place - 1)} to {RECORD_BYTES * place - 1} are no record of a board")
+            continue
         fields = {"file": name, "record": place, "ticket": record.ticket, "queue": record.queue}
         outcome = Outcome(record.kind, record, 0, fields)
         if machine is not None:
@@ -143,7 +153,7 @@ def run_record(arguments: argparse.Namespace) -> int:
         seen += 1
         refused += record.status != 0
     if refused:
-        complain(f"{arguments.prog}: {refused} of {seen} records tell of a refusal")
+        complain(f"{arguments.prog}: refused: {refused} of the records' jobs, {seen} in all")
     return _status(pieces.faults, refused)
 
 
@@ -174,10 +184,13 @@ def run_answer(arguments: argparse.Namespace) -> int:
                 outcome = Outcome(request.kind, answer(request), 0, fields)
             except Refused as refusal:
                 outcome = Outcome(request.kind, None, refusal.number, fields)
+            progress.before_line()
             if machine is not None:
                 machine.write(outcome)
             else:
                 print(answer_line(outcome, pieces.label(name, place), arguments))
+            if progress.beside_lines:
+                sys.stdout.flush()
             seen += 1
             if outcome.status != 0:
                 refused += 1
@@ -188,7 +201,7 @@ def run_answer(arguments: argparse.Namespace) -> int:
     if pieces.short and arguments.bits and machine is None:
         print("short")
     if refused:
-        complain(f"{arguments.prog}: {refused} of {seen} requests were refused")
+        complain(f"{arguments.prog}: refused: {refused} of the requests, {seen} in all")
         for number in sorted(numbers):
             complain(f"{arguments.prog}: {number} ({refusals.name(number)}): what to do: {refusals.remedy(number)}")
     return _status(pieces.faults, refused)

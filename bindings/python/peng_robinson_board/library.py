@@ -71,8 +71,9 @@ def make_shared(shared: Path = SHARED_OBJECT) -> Path:
         os.utime(made, ns=(stamp, stamp))
         made.replace(shared)
     except subprocess.CalledProcessError as fault:
+        # its first line names the cause, the last one only the linker's exit status
         said = fault.stderr.decode(errors="replace").strip().splitlines() or [f"exit status {fault.returncode}"]
-        raise LibraryMissing(f"{compiler[0]} makes no shared object of {archive}: {said[-1]}") from None
+        raise LibraryMissing(f"{compiler[0]} makes no shared object of {archive}: {said[0]}") from None
     except FileNotFoundError:
         raise LibraryMissing(f"no C compiler {compiler[0]!r} to make {shared} of {archive}: set CC") from None
     except OSError as fault:

@@ -5,11 +5,11 @@ import io
 import json
 import sys
 import textwrap
+import warnings
 from pathlib import Path
 from typing import Any, Callable, Iterable, List, Optional
 
-from .arguments import Usage, blend_arguments, blend_of, pressure_argument, real, temperature_argument
-from .commands import PHASES
+from .arguments import Usage, blend_arguments, blend_of, density_search_arguments, real
 from .curves import SAME_DENSITY, Numbers, convergence, dome, isotherms
 
 FORMATS = (".png", ".svg", ".pdf")
@@ -217,7 +217,10 @@ def picture(numbers: Numbers, ending: str) -> bytes:
         DRAWINGS[numbers["plot"]](figure, numbers)
         # without a date the same numbers make the same file
         undated = {".png": {}, ".svg": {"Date": None}, ".pdf": {"CreationDate": None}}[ending]
-        figure.savefig(file, format=ending[1:], metadata=undated)
+        with warnings.catch_warnings():
+            # of letters that the font lacks, which are drawn as boxes
+            warnings.simplefilter("ignore")
+            figure.savefig(file, format=ending[1:], metadata=undated)
     return file.getvalue()
 
 
@@ -232,12 +235,10 @@ def _run(arguments: argparse.Namespace) -> int:
     path = arguments.output
     if arguments.json:
         text = json.dumps(arguments.numbers(arguments), allow_nan=False) + "\n"
-        if path is not None:
-            _write(path, text.encode())
-        elif sys.stdout is not None:
+        if path in (None, "-"):
             sys.stdout.write(text)
         else:
-            raise Usage("standard output is closed: name a file with -o")
+            _write(path, text.encode())
         return 0
     path = path or f"{arguments.plot}.png"
     ending = Path(path).suffix.lower()
@@ -288,8 +289,4 @@ def add_parser(subparsers: Any) -> None:
         "--lowest-temperature", type=real, metavar="K", help="where the dome begins, in K (half of the critical one)"
     )
     parser = add("convergence", "a density search as looks at the board show it (kind 1)", _convergence)
-    temperature_argument(parser)
-    pressure_argument(parser)
-    begin = parser.add_mutually_exclusive_group(required=True)
-    begin.add_argument("--phase", choices=PHASES, help="the phase that the search begins in")
-    begin.add_argument("--start", type=real, metavar="DENSITY", help="a density in mol/m^3 that the search begins at")
+    density_search_arguments(parser)

@@ -17,14 +17,15 @@ def bits(number: float) -> str:
 
 @dataclass(frozen=True)
 class Record:
-    """A record; its values are reduced numbers. In one made without a board ticket and queue are 0."""
+    """A record; its values are reduced numbers. In one made without a board ticket and queue are 0. Its repr shows the
+    public fields alone."""
 
     ticket: int
     kind: int
     queue: int
-    status: int
-    values: Tuple[float, float, float]
-    evaluations: int
+    status: int = field(repr=False)
+    values: Tuple[float, float, float] = field(repr=False)
+    evaluations: int = field(repr=False)
     data: bytes = field(repr=False, compare=False)
 
     @classmethod
@@ -38,6 +39,10 @@ class Record:
     def to_bytes(self) -> bytes:
         """The 64 bytes as they came."""
         return self.data
+
+    def plausible(self) -> bool:
+        """Whether kind, queue and the zeros after them are such as a board writes; kinds of later libraries pass."""
+        return self.kind != 0 and self.queue < 4 and not any(self.data[10:16])
 
     @property
     def refused(self) -> Optional[Refused]:

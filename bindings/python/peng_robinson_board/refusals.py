@@ -85,7 +85,7 @@ _TEXTS = {
     ),
     Refusal.NOT_CONVERGED: (
         "the search did not converge within its limit",
-        "start from another density, or move away from the critical point; above it there are no spinodals",
+        "begin the search elsewhere; above the critical temperature there are no spinodals to find",
     ),
     Refusal.ITERATION_FAILED: (
         "the iteration failed",
@@ -96,15 +96,15 @@ _TEXTS = {
         "check temperature and pressure, or search one phase from a start of your own",
     ),
     Refusal.WRONG_BRANCH: (
-        "the spinodal found is of the other branch",
-        "ask for the other phase, or start nearer to the density sought",
+        "the spinodal found has not the curvature of its branch",
+        "ask for the other phase, or for a spinodal from a start of your own (kind 3)",
     ),
     Refusal.SUPERCRITICAL: (
-        "no spinodals were found, as there are none at supercritical temperatures",
-        "give a temperature below the critical one",
+        "no spinodals were found, as above the critical temperature",
+        "give a temperature below the critical one, or search each branch (kind 4)",
     ),
     Refusal.NOT_FINITE: (
-        "a number of the search left the finite range",
+        "a number that an evaluation yields, or a temperature or density after a step, is not finite",
         "check the size of coefficients, pressure and start",
     ),
 }
@@ -159,3 +159,6 @@ class Refused(Exception):
 
     def __str__(self) -> str:
         return f"refused by {self.number}: {self.meaning}"
+
+    def __repr__(self) -> str:
+        return f"Refused({self.number})"

@@ -2,11 +2,12 @@
 replay_calls prints them (crates/call_lines)."""
 import argparse
 import contextlib
+import csv
 import json
 import struct
 import sys
 from dataclasses import dataclass
-from typing import Any, BinaryIO, Iterator, List, Optional, TextIO
+from typing import Any, BinaryIO, Dict, Iterator, List, Optional, TextIO
 
 from .arguments import Usage
 from .board import Board
@@ -111,15 +112,20 @@ def made(board: Board, call: Call, records: Optional[BinaryIO] = None) -> List[A
         return ["refused", refused.number]
 
 
-def as_json(words: List[Any]) -> str:
-    names = {
-        "ticket": ["ticket"],
-        "looked": ["evaluations", "density_bits"],
-        "turned": ["written", "ticket", "kind", "queue"],
-        "refused": ["refusal"],
-        "end": ["bytes_left"],
-    }
-    return json.dumps({"answer": words[0], **dict(zip(names[words[0]], words[1:]))})
+# what the words of a line are, by the first
+_NAMES = {
+    "ticket": ["ticket"],
+    "looked": ["evaluations", "density_bits"],
+    "turned": ["written", "ticket", "kind", "queue"],
+    "refused": ["refusal"],
+    "end": ["bytes_left"],
+}
+COLUMNS = ["answer", *dict.fromkeys(name for names in _NAMES.values() for name in names)]
+
+
+def named(words: List[Any]) -> Dict[str, Any]:
+    """An answer with names, for machines."""
+    return {"answer": words[0], **dict(zip(_NAMES[words[0]], words[1:]))}
 
 
 def replay(script: TextIO, records: Optional[BinaryIO] = None) -> Iterator[List[Any]]:
@@ -143,8 +149,14 @@ def run_replay(arguments: argparse.Namespace) -> int:
         else:
             raise Usage("standard input is closed")
         records = files.enter_context(open(arguments.records, "wb")) if arguments.records is not None else None
+        table = csv.DictWriter(sys.stdout, COLUMNS, lineterminator="\n")
+        if arguments.csv:
+            table.writeheader()
         for words in replay(script, records):
-            print(as_json(words) if arguments.json else " ".join(map(str, words)))
+            if arguments.csv:
+                table.writerow(named(words))
+            else:
+                print(json.dumps(named(words)) if arguments.json else " ".join(map(str, words)))
     return 0
 
 
@@ -154,6 +166,8 @@ def add_parser(subparsers: Any) -> None:
         "replay", help=what, description=f"{what}\n\n{FORM}", formatter_class=argparse.RawDescriptionHelpFormatter
     )
     parser.add_argument("script", nargs="?", metavar="SCRIPT", help="a file; standard input where none is named, or -")
-    parser.add_argument("--json", action="store_true", help="a JSON object on a line for each call")
+    form = parser.add_mutually_exclusive_group()
+    form.add_argument("--json", action="store_true", help="a JSON object on a line for each call")
+    form.add_argument("--csv", action="store_true", help="a header, then a row for each call")
     parser.add_argument("--records", metavar="FILE", help="file for the records that are handed out, 64 bytes each")
     parser.set_defaults(run=run_replay, prog=parser.prog)

@@ -1,6 +1,6 @@
 """Requests: kind, number of components and the block that the proved writer makes; in files 642 bytes.
 `Request.new` takes reduced numbers, the constructors named for calculations take SI."""
-from dataclasses import dataclass
+from dataclasses import dataclass, field
 from typing import Optional, Union
 
 from . import library
@@ -27,11 +27,12 @@ def branch(phase: str) -> Choice:
 
 @dataclass(frozen=True)
 class Request:
-    """A request for a job. Kind, N and block may be any: the library refuses those that do not fit."""
+    """A request for a job. Kind, N and block may be any: the library refuses those that do not fit. Its repr leaves out
+    the block, which is the supplier's."""
 
     kind: int
     n: int
-    block: bytes
+    block: bytes = field(repr=False)
 
     @classmethod
     def new(
@@ -43,7 +44,8 @@ class Request:
         pressure: float = 0.0,
         start: float = 0.0,
     ) -> "Request":
-        """The request that the proved writer makes of reduced numbers; raises `Refused`."""
+        """The request that the proved writer makes of reduced numbers; raises `Refused` by the first of 2, 3, 11, 12,
+        13, 14, 17, 15, 16."""
         n = len(blend.components)
         block = bytearray(library.BLOCK_BYTES)
         lists = (blend.coefficients(), blend.interactions, blend.fractions)
@@ -54,7 +56,7 @@ class Request:
 
     @classmethod
     def density(cls, blend: Blend, temperature: float, pressure: float, phase: Phase) -> "Request":
-        """Kind 1: the density at K and Pa, of a phase or from a starting density in mol/m^3."""
+        """Kind 1: the density at K and Pa, searched from a phase or from a density in mol/m^3."""
         reduced = PRESSURE.from_si(pressure)
         if isinstance(phase, str):
             return cls.new(Kind.DENSITY, blend, branch(phase), temperature, reduced)
@@ -79,7 +81,7 @@ class Request:
     def critical_point(
         cls, component: Component, temperature: Optional[float] = None, start: Optional[float] = None
     ) -> "Request":
-        """Kind 5: the critical point of a component; the search may start from K and mol/m^3 (0 is none given)."""
+        """Kind 5: the critical point of a component; the search may start from K and mol/m^3 (+0 is none given)."""
         # +0 is how the block says that none is given
         density = 0.0 if start is None else DENSITY.from_si(start)
         return cls.new(

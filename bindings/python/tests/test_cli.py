@@ -126,6 +126,13 @@ class Calculations(unittest.TestCase):
         self.assertEqual(run(*words, "--kij", "1,3-butadiene,1,2-butadiene=0").text, plain.text)
         self.assertNotEqual(run(*words, "--kij", "1,3-butadiene,1,2-butadiene=0.1").text, plain.text)
 
+    def test_one_component_for_a_critical_point(self) -> None:
+        for words in (["propane=1"], ["propane", "butane"], ["propane=0.6", "butane=0.4"]):
+            with self.subTest(words=words):
+                ran = run("critical", *words)
+                self.assertEqual(ran.status, 1)
+                self.assertIn("critical takes one component", ran.err)
+
     def test_components(self) -> None:
         readable, lines = run("components"), objects(run("components", "--json"))
         rows = list(csv.DictReader(io.StringIO(run("components", "--csv").text)))
@@ -365,6 +372,16 @@ class Files(unittest.TestCase):
         told = [(row["ticket"], row["status"], row["refusal"]) for row in rows]
         self.assertEqual(told, [("5", "0", ""), ("5", "17", "SUM_OF_FRACTIONS")])
         self.assertEqual(float(rows[0]["pressure [Pa]"]), 6903245.0)
+
+    def test_what_is_no_record(self) -> None:
+        good = self.record(3, 0, (0.5, 0.001, -2.0), 7)
+        padded = good[:12] + b"x" + good[13:]
+        for data in (bytes(64), good[:9] + bytes([4]) + good[10:], padded, CASES[0].request()):
+            with self.subTest(data=data[:16]):
+                ran = run("record", self.file("other", data))
+                self.assertEqual((ran.status, ran.text), (1, ""))
+                self.assertIn("no record of a board", ran.err)
+        self.assertEqual(run("record", self.file("both", bytes(64) + good)).text.count("ticket"), 1)
 
     def test_records_of_numbers_not_known_here(self) -> None:
         nan = float("nan")

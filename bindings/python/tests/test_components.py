@@ -101,8 +101,8 @@ class Table(unittest.TestCase):
                 # a key ends in the year, and perhaps a letter
                 self.assertIn(f"({key.rstrip('ab')[-4:]})", citation)
 
-    def test_head_tells_how_the_figures_were_entered(self):
-        self.assertIn("entered without the publications at hand", FILE.read_text(encoding="utf-8")[:400])
+    def test_head_says_what_the_figures_are_worth(self):
+        self.assertIn("have not been compared with the publications", FILE.read_text(encoding="utf-8")[:400])
 
     def test_no_name_or_alias_stands_twice(self):
         names = [name for entry in components.table().values() for name in (entry.component.name, *entry.aliases)]

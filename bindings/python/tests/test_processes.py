@@ -157,15 +157,18 @@ class Terminals(unittest.TestCase):
             self.assertIn("100% of 3 requests", self.bar(["answer", file.name], b""))
         self.assertIn("requests", self.bar(["answer", "-"], requests))
 
-    def test_no_progress_between_the_lines_on_a_terminal(self) -> None:
+    def test_progress_below_the_lines_of_one_terminal(self) -> None:
         ours, theirs = pty.openpty()
         process = start(["answer", "-"], stdin=subprocess.PIPE, stdout=theirs, stderr=theirs)
-        process.communicate(CASES[0].request(), timeout=20)
+        process.communicate(CASES[0].request() * 3, timeout=20)
         said = os.read(ours, 4096).decode()
         os.close(theirs)
         os.close(ours)
-        self.assertIn("kind 1", said)
-        self.assertNotIn("requests", said)
+        *lines, last = said.split("\r\n")
+        # what is left of each after the bar was wiped out
+        self.assertEqual([line.split("\r")[-1].split()[:3] for line in lines], [[str(n), "kind", "1"] for n in (1, 2, 3)])
+        self.assertIn("3 requests", last)
+        self.assertEqual(last.split("\r")[-1], "")
 
     def test_no_progress_elsewhere(self) -> None:
         ran = launch(["answer", "-"], CASES[0].request())
@@ -176,7 +179,13 @@ class Interrupts(unittest.TestCase):
     def test_exit_status_130_without_a_traceback(self) -> None:
         env = environment(PYTHONUNBUFFERED="1")
         process = subprocess.Popen(
-            [str(LAUNCHER), "replay"], env=env, stdin=subprocess.PIPE, stdout=subprocess.PIPE, stderr=subprocess.PIPE
+            [str(LAUNCHER), "replay"],
+            env=env,
+            stdin=subprocess.PIPE,
+            stdout=subprocess.PIPE,
+            stderr=subprocess.PIPE,
+            # a shell's background jobs ignore it
+            preexec_fn=lambda: signal.signal(signal.SIGINT, signal.SIG_DFL),
         )
         assert process.stdin is not None and process.stdout is not None
         process.stdin.write(b"look 0\n")

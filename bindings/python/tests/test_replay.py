@@ -1,5 +1,7 @@
 """`prboard replay` against the stored runs of the program replay_calls, which come from document 01's schedule and the
 oracle, and against that program where it is built."""
+import csv
+import io
 import json
 import struct
 import subprocess
@@ -56,6 +58,13 @@ class Replay(unittest.TestCase):
         request.write_bytes(case.request()[:-1])
         self.assertEqual(run("replay", self.script([f"submit 2 {request}"])).status, 1)
         self.assertEqual(run("replay", self.script([]), "--records", "/nowhere/records").status, 1)
+
+    def test_csv(self) -> None:
+        ran = run("replay", self.script(["submit 0 3 1 zeros", "turn 64 117", "look 0"]), "--csv")
+        rows = list(csv.DictReader(io.StringIO(ran.text)))
+        last = {"answer": "turned", "written": "1", "ticket": "0", "kind": "3", "queue": "0"}
+        self.assertEqual({name: text for name, text in rows[117].items() if text}, last)
+        self.assertEqual((len(rows), rows[118]["refusal"]), (119, "7"))
 
     def test_stored_run(self) -> None:
         stored = PROJECT / "crates" / "replay_calls"

@@ -15,18 +15,20 @@ use crate::Refusal;
 #[non_exhaustive]
 #[repr(u8)]
 pub enum Kind {
-    /// Density at a temperature and a pressure, searched from a vapour, a liquid or a given density: density.
+    /// Density at a temperature and a pressure, searched from a vapour, a liquid or a given density: density. It may
+    /// be that of another phase than the one the search begins in.
     Density = 1,
     /// Density of the phase that is stable at a temperature and a pressure: density.
     StableDensity,
     /// Spinodal at a temperature, searched from a given density: pressure, density, curvature (the second derivative
-    /// of the pressure by density).
+    /// of the pressure by density, K·Å³).
     PressureSpinodal,
     /// Spinodal of the vapour or liquid branch at a temperature: pressure, density.
     SpinodalBranch,
     /// Critical point of one component: temperature, density.
     CriticalPoint,
-    /// Both limits of stability of one component at a temperature: vapour density, liquid density.
+    /// Both limits of stability of one component at a temperature: vapour density, liquid density. Below about half
+    /// of the critical temperature both may be the vapour's; [`SpinodalBranch`](Kind::SpinodalBranch) searches each.
     StabilitySpinodals,
 }
 

@@ -18,10 +18,10 @@ pub struct Record {
 }
 
 impl Record {
-    /// The record of 64 bytes. Another length is [`Refusal::RecordLength`] (5); nothing else is tested.
+    /// The record in the first 64 bytes of a buffer. Fewer are [`Refusal::RecordLength`] (5); nothing else is tested.
     pub fn from_bytes(bytes: &[u8]) -> Result<Record, Refusal> {
-        let bytes = bytes.try_into().map_err(|_| Refusal::RecordLength)?;
-        Ok(Record { bytes })
+        let bytes = bytes.first_chunk().ok_or(Refusal::RecordLength)?;
+        Ok(Record { bytes: *bytes })
     }
 
     /// The 64 bytes.
@@ -83,7 +83,8 @@ impl fmt::Debug for Record {
 pub struct Sealed {
     /// 0, or the number of a refusal by the data (11 to 17) or the equation (21 to 27).
     pub status: u64,
-    /// The values that the kind hands out ([`Kind`]), in reduced numbers; unused ones, and all on refusal, are +0.
+    /// The values that the kind hands out ([`Kind`]), in reduced numbers: K, 1/Å³, K/Å³, K·Å³; unused ones,
+    /// and all on refusal, are +0.
     pub values: [f64; 3],
     /// The evaluations that the search made.
     pub evaluations: u64,

@@ -1,10 +1,8 @@
 //! Reduced numbers and SI. The calls take and give reduced numbers; only critical values are filed in K and Pa.
 //! Temperatures are in K on both sides.
 
-/// Avogadro's constant, 1/mol.
-const AVOGADRO: f64 = 6.02214076e23;
-/// Cubic angstroms in a cubic metre.
-const CUBIC_ANGSTROMS: f64 = 1e30;
+/// mol/m³ in 1/Å³: cubic angstroms in a cubic metre over Avogadro's constant, 1/mol.
+const MOLES_PER_CUBIC_METRE: f64 = 1e30 / 6.02214076e23;
 /// Pa in 1 K/Å³: Boltzmann's constant, 1.380649e-23 J/K, times 1e30.
 const PASCALS: f64 = 13_806_490.0;
 
@@ -16,12 +14,12 @@ const PASCALS: f64 = 13_806_490.0;
 /// assert!((density_to_si(6.02214076e-3) - 10_000.0).abs() < 1e-8);
 /// ```
 pub fn density_to_si(density: f64) -> f64 {
-    density * CUBIC_ANGSTROMS / AVOGADRO
+    density * MOLES_PER_CUBIC_METRE
 }
 
 /// A density in mol/m³ as 1/Å³.
 pub fn density_from_si(density: f64) -> f64 {
-    density * AVOGADRO / CUBIC_ANGSTROMS
+    density / MOLES_PER_CUBIC_METRE
 }
 
 /// A pressure in K/Å³ as Pa.

@@ -5,7 +5,7 @@ use crate::slots::Slots;
 
 pub const USAGE: &str = "\
 usage: gateway measure [--turns COUNT] [--slot-us MICROSECONDS] [--gap-us MICROSECONDS]
-       COUNT turns of each mix, 120 to 1000000 (100000); slot and gap, 1 to 1000000 (40 and 10)";
+       COUNT turns of each mix, 1000 to 1000000 (100000); slot and gap, 1 to 1000000 (40 and 10)";
 
 /// What to measure.
 #[derive(Debug, Clone, Copy, PartialEq, Eq)]
@@ -38,7 +38,7 @@ pub fn plan(words: impl IntoIterator<Item = OsString>) -> Result<Plan, String> {
     let (mut turns, mut slot, mut gap) = (100_000, 40, 10);
     while let Some(option) = words.next() {
         match option {
-            "--turns" => turns = number(option, words.next(), 120, 1_000_000)?,
+            "--turns" => turns = number(option, words.next(), 1_000, 1_000_000)?,
             "--slot-us" => slot = number(option, words.next(), 1, 1_000_000)?,
             "--gap-us" => gap = number(option, words.next(), 1, 1_000_000)?,
             _ => return Err(format!("no such option: {option}")),

@@ -26,10 +26,10 @@ pub struct BusyClock {
 }
 
 /// Random steps are made before waits that are longer than this, in nanoseconds, which is more than they take.
-const ROOM: u64 = 5_000;
+const ROOM: u64 = 9_000;
 
 /// Fewer random steps than this, of a nanosecond or less each: together many times the distance between two readings.
-const STEPS: u64 = 2_048;
+const STEPS: u64 = 8_192;
 
 impl BusyClock {
     /// A clock that begins with 0 now.

@@ -11,8 +11,7 @@ use peng_robinson_board::{answer, Kind, Refusal, Request};
 
 enum Failure {
     Refused(Refusal),
-    /// standard output is closed
-    Output,
+    Output(io::Error),
     TooFew,
 }
 
@@ -23,8 +22,8 @@ impl From<Refusal> for Failure {
 }
 
 impl From<io::Error> for Failure {
-    fn from(_: io::Error) -> Failure {
-        Failure::Output
+    fn from(error: io::Error) -> Failure {
+        Failure::Output(error)
     }
 }
 
@@ -103,7 +102,8 @@ fn main() -> ExitCode {
                 Failure::Refused(refusal) => eprintln!("gateway: {refusal}"),
                 Failure::TooFew => eprintln!("gateway: too few turns"),
                 // a reader that closes the pipe ends the program without a message
-                Failure::Output => (),
+                Failure::Output(error) if error.kind() == io::ErrorKind::BrokenPipe => (),
+                Failure::Output(error) => eprintln!("gateway: {error}"),
             }
             ExitCode::FAILURE
         }

@@ -30,17 +30,20 @@ pub struct Samples {
     pub offset: Vec<f64>,
     /// which turn of the span it was, from 1
     pub turn: Vec<u64>,
+    /// the round that it was taken in
+    pub round: Vec<u64>,
     /// turns that ended after their slot
     pub overruns: usize,
     pub late: usize,
 }
 
 impl Samples {
-    fn add(&mut self, turn: &Turn, before: u64, place: u64) {
+    fn add(&mut self, turn: &Turn, before: u64, place: u64, round: u64) {
         self.inside.push(turn.inside as f64);
         self.interval.push((turn.released - before) as f64);
         self.offset.extend(turn.offset.map(|offset| offset as f64));
         self.turn.push(place);
+        self.round.push(round);
         self.overruns += usize::from(turn.overrun);
         self.late += usize::from(turn.offset > Some(LATE));
     }
@@ -131,6 +134,7 @@ fn alternate<S: Source>(
     let span = Kind::try_from(requests[0].kind())?.span();
     let mut samples = [Samples::default(), Samples::default()];
     let mut sides = [0, 1];
+    let mut round = 0;
     while samples[0].inside.len() < turns {
         let mut boards = [make(requests[sides[0]])?, make(requests[sides[1]])?];
         let mut taken = [0; 2];
@@ -141,13 +145,15 @@ fn alternate<S: Source>(
             for number in 0..LEAD + count {
                 let turn = boards[board].turn()?;
                 if number >= LEAD {
-                    samples.add(&turn, before, 1 + taken[board] / QUEUES % span);
+                    let place = 1 + taken[board] / QUEUES % span;
+                    samples.add(&turn, before, place, round);
                 }
                 before = turn.released;
                 taken[board] += 1;
             }
         }
         sides.swap(0, 1);
+        round += 1;
     }
     Ok(samples)
 }

@@ -1,5 +1,7 @@
 //! The gateway: one turn in each slot, submits and looks in the gaps, and a release at the slot's end.
 use std::collections::VecDeque;
+use std::fmt;
+use std::hint::black_box;
 
 use peng_robinson_board::{Board, Look, Record, Refusal, Request, Ticket, RECORD_BYTES};
 
@@ -7,7 +9,7 @@ use crate::clock::Clock;
 use crate::slots::Slots;
 
 /// How many waiting calls are served in one gap. It is a number and not a time, so that the list of calls on the
-/// board does not depend on how long a turn took.
+/// board does not depend on how long turns took, as long as they end in their slots.
 pub const CALLS_IN_A_GAP: usize = 4;
 
 /// The calls of a board.
@@ -46,7 +48,7 @@ pub enum Reply {
 }
 
 /// What is handed out at a slot's end: the turn's answer and record, and the replies to the calls served before it.
-#[derive(Debug)]
+/// `Debug` shows neither the record nor the replies, which have sealed parts.
 pub struct Release {
     /// the slot at whose end this is
     pub slot: u64,
@@ -65,6 +67,14 @@ impl Release {
     }
 }
 
+impl fmt::Debug for Release {
+    fn fmt(&self, f: &mut fmt::Formatter<'_>) -> fmt::Result {
+        let mut shown = f.debug_struct("Release");
+        shown.field("slot", &self.slot).field("turn", &self.turn);
+        shown.finish_non_exhaustive()
+    }
+}
+
 /// The moments of a slot. They are for the operator alone: how long a turn took tells whether it evaluated.
 #[derive(Debug, Clone, Copy, PartialEq, Eq)]
 pub struct Moments {
@@ -78,7 +88,6 @@ pub struct Moments {
 }
 
 /// A board behind a fixed clock.
-#[derive(Debug)]
 pub struct Gateway<C, B = Board> {
     board: B,
     clock: C,
@@ -117,15 +126,15 @@ impl<C: Clock, B: BoardCalls> Gateway<C, B> {
 
         let release_slot = self.slots.next_end(ended).max(slot);
         let boundary = self.slots.end(release_slot);
-        self.clock.wait_until(boundary);
-        // the same bytes are copied and cleared whether the turn wrote a record or not
-        let buffer = std::mem::replace(&mut self.buffer, [0; RECORD_BYTES]);
-        let release = Release {
+        // all work is done before the wait, the same whether the turn wrote a record or not: what the turn left in the
+        // processor's caches would show in work that is done after it
+        let release = black_box(Release {
             slot: release_slot,
             turn,
             replies,
-            buffer,
-        };
+            buffer: std::mem::replace(&mut self.buffer, [0; RECORD_BYTES]),
+        });
+        self.clock.wait_until(boundary);
         let released = self.clock.now();
         let moments = Moments {
             slot,

@@ -3,7 +3,9 @@ use std::io::{self, Write};
 use std::ops::Range;
 
 use crate::measure::Samples;
-use crate::statistics::{cropped, summary, two_shares, welch, Summary, Welch, THRESHOLD};
+use crate::statistics::{
+    by_rounds, cropped, summary, two_shares, welch, Student, Summary, Welch, THRESHOLD,
+};
 
 /// The share of the times that is left out at either end for the middle nine tenths.
 const OUT: f64 = 0.05;
@@ -16,9 +18,71 @@ fn middle(first: &[f64], second: &[f64]) -> Option<Welch> {
     welch(&first, &second)
 }
 
-/// Welch's t of all and of the middle nine tenths.
-fn both(first: &[f64], second: &[f64]) -> Option<[Welch; 2]> {
-    Some([welch(first, second)?, middle(first, second)?])
+/// What two sets of times say of each other: Welch's t of all and of the middle nine tenths, and by rounds.
+#[derive(Debug, Clone, Copy)]
+pub struct Compared {
+    pub all: Welch,
+    pub middle: Welch,
+    pub rounds: Student,
+}
+
+impl Compared {
+    /// None where there are too few times. `rounds` are those that the times belong to.
+    pub fn of(times: [&[f64]; 2], rounds: [&[u64]; 2]) -> Option<Compared> {
+        let [first, second] = times;
+        Some(Compared {
+            all: welch(first, second)?,
+            middle: middle(first, second)?,
+            rounds: by_rounds(times, rounds, OUT)?,
+        })
+    }
+
+    fn print(&self, out: &mut impl Write) -> io::Result<()> {
+        print_test(out, "all", &self.all)?;
+        print_test(out, "middle nine tenths", &self.middle)?;
+        let Student {
+            difference,
+            t,
+            degrees,
+        } = self.rounds;
+        let what = "the same, by rounds";
+        writeln!(
+            out,
+            "    {what:<26} t {t:>8.2}  df {degrees:>8.0}  difference {difference:.2}"
+        )
+    }
+}
+
+/// The largest |t| of Welch's tests, and |t| by rounds.
+#[derive(Debug, Clone, Copy, PartialEq)]
+pub struct Largest {
+    pub welch: f64,
+    pub rounds: f64,
+}
+
+impl Largest {
+    fn of(tests: &[Welch], rounds: &Student) -> Largest {
+        Largest {
+            welch: tests.iter().map(|test| test.t.abs()).fold(0.0, f64::max),
+            rounds: rounds.t.abs(),
+        }
+    }
+
+    fn or(self, other: Largest) -> Largest {
+        Largest {
+            welch: self.welch.max(other.welch),
+            rounds: self.rounds.max(other.rounds),
+        }
+    }
+
+    /// A difference that both tests see.
+    fn told_apart(&self) -> bool {
+        self.welch > THRESHOLD && self.rounds > THRESHOLD
+    }
+
+    fn not_told_apart(&self) -> bool {
+        self.welch <= THRESHOLD && self.rounds <= THRESHOLD
+    }
 }
 
 /// What the times of two boards say of one quantity.
@@ -26,16 +90,21 @@ fn both(first: &[f64], second: &[f64]) -> Option<[Welch; 2]> {
 pub struct Findings {
     pub quantity: &'static str,
     pub summaries: [Summary; 2],
-    pub all: Welch,
-    pub middle: Welch,
+    pub compared: Compared,
     /// the turn of the span, from 1, whose middle nine tenths have the largest |t|
     pub turn: u64,
     pub at_turn: Welch,
 }
 
 impl Findings {
-    /// None where there are too few times. `turns` are the turns of the span that the times belong to.
-    pub fn of(quantity: &'static str, times: [&[f64]; 2], turns: [&[u64]; 2]) -> Option<Findings> {
+    /// None where there are too few times. `turns` are the turns of the span and `rounds` the rounds that the times
+    /// belong to.
+    pub fn of(
+        quantity: &'static str,
+        times: [&[f64]; 2],
+        turns: [&[u64]; 2],
+        rounds: [&[u64]; 2],
+    ) -> Option<Findings> {
         let [first, second] = times;
         let at = |board: usize, turn: u64| -> Vec<f64> {
             let pairs = times[board].iter().zip(turns[board]);
@@ -49,17 +118,19 @@ impl Findings {
         Some(Findings {
             quantity,
             summaries: [summary(first)?, summary(second)?],
-            all: welch(first, second)?,
-            middle: middle(first, second)?,
+            compared: Compared::of(times, rounds)?,
             turn,
             at_turn,
         })
     }
 
-    /// The largest |t| of the three tests.
-    pub fn largest(&self) -> f64 {
-        let tests = [self.all, self.middle, self.at_turn];
-        tests.iter().map(|test| test.t.abs()).fold(0.0, f64::max)
+    pub fn largest(&self) -> Largest {
+        let Compared {
+            all,
+            middle,
+            rounds,
+        } = self.compared;
+        Largest::of(&[all, middle, self.at_turn], &rounds)
     }
 
     fn print(&self, out: &mut impl Write, names: [&str; 2]) -> io::Result<()> {
@@ -75,8 +146,7 @@ impl Findings {
                 s.mean, s.deviation, s.median, s.most, s.largest
             )?;
         }
-        print_test(out, "all", &self.all)?;
-        print_test(out, "middle nine tenths", &self.middle)?;
+        self.compared.print(out)?;
         let turn = format!("turn {} of the span", self.turn);
         print_test(out, &turn, &self.at_turn)
     }
@@ -101,11 +171,10 @@ pub struct Missed {
 /// What is known of the paced turns only.
 #[derive(Debug, Clone, Copy)]
 pub struct Releases {
-    /// releases after the slot's end of turns that evaluate against turns that do not, of both boards: all of them, and
-    /// their middle nine tenths
-    pub work: [Welch; 2],
+    /// releases after the slot's end of turns that evaluate against turns that do not, of both boards
+    pub work: Compared,
     /// of turns that do not evaluate, those early in the span against those late in it
-    pub idle: [Welch; 2],
+    pub idle: Compared,
     pub missed: [Missed; 2],
 }
 
@@ -117,11 +186,22 @@ pub struct Run {
     pub releases: Option<Releases>,
 }
 
-/// The releases whose turn of the span is in the range, of both boards.
-fn offsets(samples: &[Samples; 2], turns: &Range<u64>) -> Vec<f64> {
-    let pairs = samples.iter().flat_map(|s| s.offset.iter().zip(&s.turn));
-    let wanted = pairs.filter(|(_, turn)| turns.contains(turn));
-    wanted.map(|(&offset, _)| offset).collect()
+/// The releases whose turn of the span is in the range, of both boards, and their rounds.
+fn offsets(samples: &[Samples; 2], turns: &Range<u64>) -> (Vec<f64>, Vec<u64>) {
+    let all = |s: &'_ Samples| -> Vec<(f64, u64)> {
+        let times = s.offset.iter().zip(&s.turn).zip(&s.round);
+        let wanted = times.filter(|((_, turn), _)| turns.contains(turn));
+        wanted
+            .map(|((&offset, _), &round)| (offset, round))
+            .collect()
+    };
+    samples.iter().flat_map(all).unzip()
+}
+
+/// The releases of two ranges of turns of the span against each other.
+fn compared(samples: &[Samples; 2], turns: [Range<u64>; 2]) -> Option<Compared> {
+    let [first, second] = turns.map(|turns| offsets(samples, &turns));
+    Compared::of([&first.0, &second.0], [&first.1, &second.1])
 }
 
 impl Run {
@@ -129,9 +209,10 @@ impl Run {
         let turns = samples.each_ref().map(|s| s.turn.as_slice());
         let inside = samples.each_ref().map(|s| s.inside.as_slice());
         let interval = samples.each_ref().map(|s| s.interval.as_slice());
+        let rounds = samples.each_ref().map(|s| s.round.as_slice());
         let findings = vec![
-            Findings::of(INSIDE, inside, turns)?,
-            Findings::of("interval between releases", interval, turns)?,
+            Findings::of(INSIDE, inside, turns, rounds)?,
+            Findings::of("interval between releases", interval, turns, rounds)?,
         ];
         Some(Run {
             names,
@@ -150,18 +231,19 @@ impl Run {
         let mut run = Run::free(names, samples)?;
         let turns = samples.each_ref().map(|s| s.turn.as_slice());
         let offset = samples.each_ref().map(|s| s.offset.as_slice());
+        let rounds = samples.each_ref().map(|s| s.round.as_slice());
+        let quantity = "release after slot's end";
         run.findings
-            .push(Findings::of("release after slot's end", offset, turns)?);
+            .push(Findings::of(quantity, offset, turns, rounds)?);
         let missed = samples.each_ref().map(|s| Missed {
             overruns: s.overruns,
             late: s.late,
             turns: s.turn.len(),
         });
         let between = (idle.start + idle.end) / 2;
-        let of = |turns: Range<u64>| offsets(samples, &turns);
         run.releases = Some(Releases {
-            work: both(&of(evaluating), &of(idle.clone()))?,
-            idle: both(&of(idle.start..between), &of(between..idle.end))?,
+            work: compared(samples, [evaluating, idle.clone()])?,
+            idle: compared(samples, [idle.start..between, between..idle.end])?,
             missed,
         });
         Some(run)
@@ -179,11 +261,10 @@ impl Run {
                 ("others early in the span", "late", idle),
             ];
             writeln!(out, "  release after slot's end, both boards")?;
-            for (one, other, [all, middle]) in pairs {
-                let [a, b] = middle.means;
+            for (one, other, compared) in pairs {
+                let [a, b] = compared.middle.means;
                 writeln!(out, "    {one} {a:.2}, {other} {b:.2}: middle nine tenths")?;
-                print_test(out, "all", all)?;
-                print_test(out, "middle nine tenths", middle)?;
+                compared.print(out)?;
             }
             let totals = missed.map(|it| it.turns);
             let counts = [
@@ -216,8 +297,8 @@ pub struct Measured {
 }
 
 impl Measured {
-    /// Each test by name with the largest |t| and that of its control.
-    pub fn tests(&self) -> Vec<(String, f64, f64)> {
+    /// Each test by name with the largest |t|, and those of its control.
+    pub fn tests(&self) -> Vec<(String, Largest, Largest)> {
         let pairs = [
             ("free-running", &self.free, &self.free_control),
             ("paced", &self.paced, &self.paced_control),
@@ -226,40 +307,56 @@ impl Measured {
         for (mode, run, control) in pairs {
             for (a, b) in run.findings.iter().zip(&control.findings) {
                 let hidden = match (mode, a.quantity) {
-                    ("paced", INSIDE) => ", which is not released",
+                    ("paced", INSIDE) => ", not released",
                     _ => "",
                 };
                 let name = format!("{mode}, {}{hidden}", a.quantity);
                 tests.push((name, a.largest(), b.largest()));
             }
         }
+        // evaluating turns are told from others by both pairs of boards
         let both = [&self.paced.releases, &self.paced_control.releases];
-        let largest = |tests: fn(&Releases) -> [Welch; 2]| {
-            let tests = both.into_iter().flatten().flat_map(tests);
-            tests.map(|test| test.t.abs()).fold(0.0, f64::max)
+        let largest = |of: fn(&Releases) -> Compared| {
+            let compared = both.into_iter().flatten().map(of);
+            let largest = compared.map(|it| Largest::of(&[it.all, it.middle], &it.rounds));
+            largest.reduce(Largest::or)
         };
-        let name = "paced, release of turns that evaluate against others".to_string();
-        tests.push((name, largest(|it| it.work), largest(|it| it.idle)));
+        if let (Some(work), Some(idle)) = (largest(|it| it.work), largest(|it| it.idle)) {
+            let name = "paced, release of turns that evaluate".to_string();
+            tests.push((name, work, idle));
+        }
         tests
     }
 
-    /// The largest |t| of what a rival sees of a gateway.
-    pub fn largest_paced(&self) -> f64 {
+    /// The tests of what a rival sees of a gateway.
+    fn released(&self) -> Vec<(String, Largest, Largest)> {
         let tests = self.tests().into_iter();
-        let released =
-            tests.filter(|(name, ..)| name.starts_with("paced") && !name.contains(INSIDE));
-        released.map(|(_, t, _)| t).fold(0.0, f64::max)
+        tests
+            .filter(|(name, ..)| name.starts_with("paced") && !name.contains(INSIDE))
+            .collect()
     }
 
     pub fn print(&self, out: &mut impl Write) -> io::Result<()> {
-        writeln!(out, "{:<56} {:>9} {:>9}", "Largest |t|", "mixes", "control")?;
+        writeln!(
+            out,
+            "{:<44} {:>19} {:>19}",
+            "Largest |t|", "mixes", "control"
+        )?;
+        let columns = ["Welch", "by rounds", "Welch", "by rounds"].map(|it| format!("{it:>9}"));
+        writeln!(out, "{:<44} {}", "", columns.join(" "))?;
         for (name, mixes, control) in self.tests() {
-            let verdict = match (mixes > THRESHOLD, control > THRESHOLD) {
-                (_, true) => "unclear: the control is above 4.5",
-                (true, false) => "told apart",
-                (false, false) => "not told apart",
+            let verdict = if mixes.not_told_apart() {
+                "not told apart"
+            } else if mixes.told_apart() && control.not_told_apart() {
+                "told apart"
+            } else {
+                "unclear"
             };
-            writeln!(out, "  {name:<54} {mixes:>9.2} {control:>9.2}  {verdict}")?;
+            writeln!(
+                out,
+                "  {name:<42} {:>9.2} {:>9.2} {:>9.2} {:>9.2}  {verdict}",
+                mixes.welch, mixes.rounds, control.welch, control.rounds
+            )?;
         }
         self.print_lessons(out)
     }
@@ -269,7 +366,7 @@ impl Measured {
         if let Some(inside) = self.free.findings.first() {
             let [a, b] = inside.at_turn.means;
             let [first, second] = self.free.names;
-            let tells = match inside.largest() > THRESHOLD {
+            let tells = match inside.largest().told_apart() {
                 true => "the mixes are told apart",
                 false => "no test of the turns' times tells the mixes apart",
             };
@@ -281,20 +378,23 @@ impl Measured {
                 inside.turn, inside.at_turn.t
             )?;
         }
-        let largest = self.largest_paced();
-        if largest > THRESHOLD {
-            writeln!(
-                out,
-                "- Paced, a test of the releases has |t| {largest:.2}, above {THRESHOLD}: the pacing did not hide \
-                 everything here."
-            )?;
+        let released = self.released();
+        let largest = released.iter().map(|(_, largest, _)| *largest);
+        let Largest { welch, rounds } = largest.reduce(Largest::or).unwrap_or(Largest {
+            welch: 0.0,
+            rounds: 0.0,
+        });
+        let says = if released.iter().any(|(_, largest, _)| largest.told_apart()) {
+            "the pacing did not hide everything here"
+        } else if welch > THRESHOLD || rounds > THRESHOLD {
+            "one kind of test sees a difference\n  that the other does not"
         } else {
-            writeln!(
-                out,
-                "- Paced, no test of the releases is above {THRESHOLD} (largest |t| {largest:.2}): with so many turns \
-                 these tests\n  do not tell the mixes apart."
-            )?;
-        }
+            "with so many turns these tests\n  do not tell the mixes apart"
+        };
+        writeln!(
+            out,
+            "- Paced, the largest |t| of the releases is {welch:.2} by Welch and {rounds:.2} by rounds: {says}."
+        )?;
         if let Some(Releases { missed: [a, b], .. }) = self.paced.releases {
             writeln!(
                 out,

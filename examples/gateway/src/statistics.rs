@@ -1,4 +1,6 @@
-//! Means, deviations, Welch's t-test and the comparison of two shares.
+//! Means, deviations, Welch's and Student's t-tests and the comparison of two shares.
+use std::collections::BTreeMap;
+use std::ops::RangeInclusive;
 
 /// |t| above which side-channel practice takes two sets of times for different (TVLA, test vector leakage
 /// assessment).
@@ -76,25 +78,77 @@ pub fn welch(first: &[f64], second: &[f64]) -> Option<Welch> {
     Some(Welch { means, t, degrees })
 }
 
-/// Both sides without the numbers outside of two limits, which leave out that share of all of them at either end.
-/// The limits are the same for both sides. Interruptions of milliseconds would otherwise hide differences of
-/// nanoseconds.
-pub fn cropped(first: &[f64], second: &[f64], share: f64) -> (Vec<f64>, Vec<f64>) {
+/// Student's t of differences against 0, with one degree of freedom less than there are.
+#[derive(Debug, Clone, Copy, PartialEq)]
+pub struct Student {
+    pub difference: f64,
+    pub t: f64,
+    pub degrees: f64,
+}
+
+/// None of fewer than two differences. Where they do not vary, t is 0 if they are 0, else infinite.
+pub fn student(differences: &[f64]) -> Option<Student> {
+    if differences.len() < 2 {
+        return None;
+    }
+    let count = differences.len() as f64;
+    let (difference, error) = (mean(differences), (variance(differences) / count).sqrt());
+    let t = if error > 0.0 {
+        difference / error
+    } else if difference == 0.0 {
+        0.0
+    } else {
+        f64::INFINITY.copysign(difference)
+    };
+    Some(Student {
+        difference,
+        t,
+        degrees: count - 1.0,
+    })
+}
+
+/// Two limits, the same for both sides, which leave out that share of all numbers at either end. Interruptions of
+/// milliseconds would otherwise hide differences of nanoseconds.
+pub fn limits(first: &[f64], second: &[f64], share: f64) -> Option<RangeInclusive<f64>> {
     let all = sorted(&[first, second].concat());
     let out = (share * all.len() as f64) as usize;
-    let least = all.get(out);
-    let most = all
-        .len()
-        .checked_sub(out + 1)
-        .and_then(|place| all.get(place));
-    let (Some(&least), Some(&most)) = (least, most) else {
+    let most = all.len().checked_sub(out + 1)?;
+    Some(*all.get(out)?..=*all.get(most)?)
+}
+
+/// Both sides without the numbers outside of their limits.
+pub fn cropped(first: &[f64], second: &[f64], share: f64) -> (Vec<f64>, Vec<f64>) {
+    let Some(limits) = limits(first, second, share) else {
         return (Vec::new(), Vec::new());
     };
     let between = |numbers: &[f64]| {
-        let kept = numbers.iter().filter(|&&x| (least..=most).contains(&x));
+        let kept = numbers.iter().filter(|&x| limits.contains(x));
         kept.copied().collect()
     };
     (between(first), between(second))
+}
+
+/// Student's t of the differences between the two sides' means in each round, of the numbers within their common
+/// limits. Times of one round are not independent of each other, as Welch's t takes them to be: what changes slowly in
+/// the machine changes them together. Within a round it meets both sides alike.
+pub fn by_rounds(times: [&[f64]; 2], rounds: [&[u64]; 2], share: f64) -> Option<Student> {
+    let [first, second] = times;
+    let limits = limits(first, second, share)?;
+    let means = |side: usize| -> BTreeMap<u64, f64> {
+        let mut sums: BTreeMap<u64, (f64, f64)> = BTreeMap::new();
+        let pairs = times[side].iter().zip(rounds[side]);
+        for (time, &round) in pairs.filter(|(time, _)| limits.contains(time)) {
+            let (sum, count) = sums.entry(round).or_default();
+            *sum += time;
+            *count += 1.0;
+        }
+        let mean = |(round, (sum, count))| (round, sum / count);
+        sums.into_iter().map(mean).collect()
+    };
+    let (first, second) = (means(0), means(1));
+    let difference = |(round, mean): (&u64, &f64)| Some(mean - second.get(round)?);
+    let differences: Vec<f64> = first.iter().filter_map(difference).collect();
+    student(&differences)
 }
 
 /// The z of two counts out of two totals, by their common share; 0 where none or all were counted.

@@ -21,7 +21,7 @@ fn bad_arguments_give_1_and_the_usage() {
         &["measure", "now"],
         &["measure", "--turns"],
         &["measure", "--turns", "0"],
-        &["measure", "--turns", "119"],
+        &["measure", "--turns", "999"],
         &["measure", "--turns", "1000001"],
         &["measure", "--turns", "100,000"],
         &["measure", "--turns", "1e5"],
@@ -64,7 +64,7 @@ fn a_short_measurement_prints_every_test() {
     let output = gateway(&[
         "measure",
         "--turns",
-        "480",
+        "1000",
         "--slot-us",
         "20",
         "--gap-us",
@@ -74,6 +74,7 @@ fn a_short_measurement_prints_every_test() {
     assert!(output.status.success());
     assert!(text.contains("winter evaluates in its first 9 turns,\ncatalogue in 8."));
     assert_eq!(text.matches("middle nine tenths         t").count(), 14);
+    assert_eq!(text.matches("the same, by rounds        t").count(), 14);
     assert_eq!(text.matches("turns that ended after their slot").count(), 2);
     assert_eq!(text.matches("Not measured: power, caches").count(), 1);
 }
@@ -108,7 +109,7 @@ fn a_closed_pipe_is_no_panic() {
         .args([
             "measure",
             "--turns",
-            "120",
+            "1000",
             "--slot-us",
             "20",
             "--gap-us",

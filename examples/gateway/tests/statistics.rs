@@ -1,6 +1,6 @@
 //! Statistics on small numbers, worked by hand.
 use gateway::report::Findings;
-use gateway::statistics::{cropped, summary, two_shares, welch};
+use gateway::statistics::{by_rounds, cropped, student, summary, two_shares, welch};
 
 fn close(a: f64, b: f64) -> bool {
     (a - b).abs() < 1e-9
@@ -85,15 +85,60 @@ fn shares_by_hand() {
 #[test]
 fn the_turn_that_differs_is_found() {
     let turns: Vec<u64> = (0..3000).map(|i| 1 + i % 30).collect();
+    let rounds: Vec<u64> = (0..3000).map(|i| i / 300).collect();
     let noise = |i: u64| (i * 7919 % 101) as f64;
     let first: Vec<f64> = (0..3000).map(noise).collect();
     let second: Vec<f64> = (0..3000)
         .map(|i| noise(i + 30) + if i % 30 == 8 { 400.0 } else { 0.0 })
         .collect();
-    let found = Findings::of("times", [&first, &second], [&turns, &turns]).unwrap();
+    let found = Findings::of(
+        "times",
+        [&first, &second],
+        [&turns, &turns],
+        [&rounds, &rounds],
+    )
+    .unwrap();
     assert_eq!(found.turn, 9);
-    assert!(found.at_turn.t < -4.5 && found.largest() > 4.5);
-    let same = Findings::of("times", [&first, &first], [&turns, &turns]).unwrap();
-    assert_eq!(same.largest(), 0.0);
-    assert!(Findings::of("times", [&[], &[]], [&[], &[]]).is_none());
+    assert!(found.at_turn.t < -4.5 && found.largest().welch > 4.5);
+    let same = Findings::of(
+        "times",
+        [&first, &first],
+        [&turns, &turns],
+        [&rounds, &rounds],
+    )
+    .unwrap();
+    assert_eq!((same.largest().welch, same.largest().rounds), (0.0, 0.0));
+    assert!(Findings::of("times", [&[], &[]], [&[], &[]], [&[], &[]]).is_none());
+}
+
+/// Mean 2, variance 1 of three: t = 2 / sqrt(1/3).
+#[test]
+fn student_by_hand() {
+    let test = student(&[1.0, 2.0, 3.0]).unwrap();
+    assert_eq!((test.difference, test.degrees), (2.0, 2.0));
+    assert!(close(test.t, 12f64.sqrt()));
+    assert_eq!(student(&[0.0, 0.0]).unwrap().t, 0.0);
+    assert_eq!(student(&[-1.0, -1.0]).unwrap().t, f64::NEG_INFINITY);
+    assert_eq!(student(&[1.0]), None);
+}
+
+/// Three rounds, each 100 later than the one before, with differences 1, 2 and 3 in their means: the drift does not hide
+/// them as it does from Welch's t. A round of one side alone is left out, and so are numbers beyond the limits.
+#[test]
+fn rounds_take_the_drift_away() {
+    let first = [10.0, 12.0, 110.0, 112.0, 210.0, 212.0];
+    let second = [9.0, 11.0, 108.0, 110.0, 207.0, 209.0];
+    let rounds = [0, 0, 1, 1, 2, 2];
+    let test = by_rounds([&first, &second], [&rounds, &rounds], 0.0).unwrap();
+    assert_eq!((test.difference, test.degrees), (2.0, 2.0));
+    assert!(close(test.t, 12f64.sqrt()));
+    assert!(welch(&first, &second).unwrap().t < 0.1);
+    let alone = [0, 0, 1, 1, 2, 3];
+    let test = by_rounds([&first, &second], [&alone, &rounds], 0.0).unwrap();
+    assert_eq!(test.degrees, 2.0);
+    assert!(close(test.difference, 5.0 / 3.0));
+    // the least and the largest of twelve go: 9 and 212
+    let test = by_rounds([&first, &second], [&rounds, &rounds], 0.1).unwrap();
+    assert!(close(test.difference, (0.0 + 2.0 + 2.0) / 3.0));
+    assert!(by_rounds([&[], &[]], [&[], &[]], 0.05).is_none());
 }

@@ -1,5 +1,5 @@
 //! Prints what a rival sees of a winter mix and of a catalogue mix: of an engine that replies when its iteration
-//! stops, and of the board. Exit status 1 where the board's public views differ, or where the comparison is hollow.
+//! stops, and of the board. Exit status 1 where the board's public views differ, or where nothing else does.
 use std::io::{self, Write};
 use std::process::ExitCode;
 
@@ -12,9 +12,9 @@ use rival::public::{condensed, first_difference, run, Call, Fields, Owned, Publi
 const USAGE: &str = "usage: rival        (no arguments)";
 
 const THEOREM: &str = "\
-That they are equal, the theorem `demand-3` says of any two lists of calls with the same public fields
-(crates/board_spec: statement specs/Demand3.antt, field `public-same`; proof proofs/Demand3.antt). A call's moment in
-it is its place in the list. It says nothing of wall-clock time inside one turn: a turn that evaluates takes longer
+That they are equal, the theorem `demand-3` says of any two lists of calls from a fresh board with the same public
+fields (crates/board_spec: statement specs/Demand3.antt, field `public-same`; proof proofs/Demand3.antt). A call's
+moment in it is its place in the list. It says nothing of wall-clock time inside one turn: a turn that evaluates takes longer
 than one that does not. examples/gateway measures that time and releases records on a fixed clock.";
 
 /// The list of calls of both mixes and what comes of it.
@@ -166,9 +166,15 @@ fn main() -> ExitCode {
             return ExitCode::FAILURE;
         }
     };
-    // a reader that closes the pipe ends the program without a message
     match comparison.print(&mut io::stdout().lock()) {
         Ok(()) if comparison.holds() => ExitCode::SUCCESS,
-        _ => ExitCode::FAILURE,
+        Ok(()) => ExitCode::FAILURE,
+        Err(error) => {
+            // a reader that closes the pipe ends the program without a message
+            if error.kind() != io::ErrorKind::BrokenPipe {
+                eprintln!("rival: {error}");
+            }
+            ExitCode::FAILURE
+        }
     }
 }

@@ -3,7 +3,7 @@
 //! The place in the list is the moment.
 use std::fmt;
 
-use peng_robinson_board::{Board, Look, Record, RECORD_BYTES};
+use peng_robinson_board::{Board, Look, Record};
 
 /// A call with its arguments; of a turn the length of its record buffer.
 #[derive(Debug, Clone, PartialEq, Eq)]
@@ -131,11 +131,9 @@ pub fn run(calls: &[Call]) -> (Vec<Public>, Owned) {
             },
             Call::Turn { buffer } => {
                 let mut bytes = vec![0; *buffer];
-                let written = board.turn_into(&mut bytes).and_then(|written| {
-                    written
-                        .then(|| Record::from_bytes(&bytes[..RECORD_BYTES]))
-                        .transpose()
-                });
+                let written = board
+                    .turn_into(&mut bytes)
+                    .and_then(|written| written.then(|| Record::from_bytes(&bytes)).transpose());
                 match written {
                     Ok(None) => Public::NoRecord,
                     Ok(Some(record)) => {
