@@ -116,10 +116,15 @@ def _pair_of(word: str, names: str, blend: Tuple[Component, ...]) -> Tuple[str, 
         return found if any(one.name == found for one in blend) else None
 
     parts = names.split(",")
+    pairs = []
     for cut in range(1, len(parts)):
         first, second = match(",".join(parts[:cut])), match(",".join(parts[cut:]))
         if first is not None and second is not None:
-            return first, second
+            pairs.append((first, second))
+    if len(pairs) == 1:
+        return pairs[0]
+    if pairs:
+        raise Usage(f"--kij {word!r} can be read as more than one pair of names")
     raise Usage(f"--kij {word!r} does not name two components of the blend as NAME,NAME=K")
 
 

@@ -81,7 +81,7 @@ _TEXTS = {
     ),
     Refusal.STARTING_DENSITY: (
         "the search starts from a density of 0 or below",
-        "start from a density above 0, or, for a vapour, give a pressure above 0",
+        "start from a density above 0; a search from the vapour starts at pressure over temperature",
     ),
     Refusal.NOT_CONVERGED: (
         "the search did not converge within its limit",

@@ -20,6 +20,8 @@ from .request import Request
 # the longest record buffer of a turn
 NUMBERS = {"submit": 0, "turn": 1, "look": 2}
 LONGEST_RECORD = 256
+# a block of another length than 640 is refused by 8; files without an end are not read
+LONGEST_BLOCK = 2**24
 
 FORM = """\
 one call on a line; a # begins a comment:
@@ -64,7 +66,10 @@ def _number(word: str) -> int:
 
 def _file(name: str) -> bytes:
     with open(name, "rb") as file:
-        return file.read()
+        data = file.read(LONGEST_BLOCK + 1)
+    if len(data) > LONGEST_BLOCK:
+        raise ValueError(f"{name} has more than {LONGEST_BLOCK} bytes")
+    return data
 
 
 def _call(words: List[str]) -> Call:

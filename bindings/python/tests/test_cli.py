@@ -126,6 +126,12 @@ class Calculations(unittest.TestCase):
         self.assertEqual(run(*words, "--kij", "1,3-butadiene,1,2-butadiene=0").text, plain.text)
         self.assertNotEqual(run(*words, "--kij", "1,3-butadiene,1,2-butadiene=0.1").text, plain.text)
 
+    def test_pairs_of_names_that_can_be_read_twice(self) -> None:
+        figures = ":400:4e6:0.2=0.25"
+        ran = run("spinodal", *(name + figures for name in ("a", "b,c", "a,b", "c")), "--temperature", "300", "--kij", "a,b,c=0.1")
+        self.assertEqual(ran.status, 1)
+        self.assertIn("more than one pair", ran.err)
+
     def test_one_component_for_a_critical_point(self) -> None:
         for words in (["propane=1"], ["propane", "butane"], ["propane=0.6", "butane=0.4"]):
             with self.subTest(words=words):

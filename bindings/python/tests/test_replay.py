@@ -58,6 +58,8 @@ class Replay(unittest.TestCase):
         request.write_bytes(case.request()[:-1])
         self.assertEqual(run("replay", self.script([f"submit 2 {request}"])).status, 1)
         self.assertEqual(run("replay", self.script([]), "--records", "/nowhere/records").status, 1)
+        self.assertEqual(run("replay", self.script(["submit 0 /dev/zero"])).status, 1)
+        self.assertEqual(run("replay", self.script(["submit 0 3 1 /dev/zero"])).status, 1)
 
     def test_csv(self) -> None:
         ran = run("replay", self.script(["submit 0 3 1 zeros", "turn 64 117", "look 0"]), "--csv")

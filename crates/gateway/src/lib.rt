@@ -43,7 +43,7 @@ pub extern "C" fn pr_write_block(
     writer::write_block(kind, n, coefficients, interactions, fractions, c, block)
 }
 
-// The board's calls. specs/Answers.antt of `board` says what their number means; what a refusal leaves unsaid stands as it was.
+// The board's calls. specs/Answers.antt of `board` says what their number means; on a refusal ticket, evaluations and density stay.
 #[no_mangle]
 pub extern "C" fn pr_submit(
     board: &mut [u8],
