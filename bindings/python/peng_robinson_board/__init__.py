@@ -2,7 +2,7 @@
 the proved library that this package calls; its own part is units, names and files."""
 from . import components, units
 from .blend import Blend, Component
-from .board import QUEUES, Board, Look, Ticket
+from .board import Board, Look, Ticket
 from .calculations import (
     CriticalPoint,
     Density,
@@ -17,7 +17,7 @@ from .calculations import (
     stable_density,
 )
 from .kinds import Choice, Kind
-from .library import BLOCK_BYTES, BOARD_BYTES, RECORD_BYTES, LibraryMissing
+from .library import BLOCK_BYTES, BOARD_BYTES, QUEUES, RECORD_BYTES, LibraryMissing
 from .record import Record
 from .refusals import Refusal, Refused
 from .request import REQUEST_BYTES, Request

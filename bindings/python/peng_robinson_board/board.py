@@ -9,8 +9,6 @@ from .refusals import Refused
 from .request import Request
 from .units import DENSITY
 
-QUEUES = 4
-
 
 class Ticket(NamedTuple):
     """A job's number in its queue."""

@@ -25,6 +25,7 @@ from .output import Machine, Outcome, aligned, complain, output_arguments, tell,
 from .refusals import Refused
 from .request import Request
 
+
 @dataclass(frozen=True)
 class Job:
     """A request to be written, and the phase that it asks for, if it names one."""

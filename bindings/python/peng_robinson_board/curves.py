@@ -5,8 +5,9 @@ from typing import Any, Callable, Dict, Iterable, List, Optional, Tuple, Union
 from . import calculations
 from .arguments import Usage
 from .blend import Blend
-from .board import QUEUES, Board
+from .board import Board
 from .kinds import DESCRIPTIONS, Kind
+from .library import QUEUES
 from .refusals import Refusal, Refused
 from .request import Request
 from .units import DENSITY, PRESSURE, TEMPERATURE

@@ -10,6 +10,7 @@ from pathlib import Path
 from typing import Any, Optional, Sequence, Union
 
 BOARD_BYTES = 24_584
+QUEUES = 4
 BLOCK_BYTES = 640
 RECORD_BYTES = 64
 

@@ -4,7 +4,7 @@ from dataclasses import dataclass, field
 from typing import List, Optional, Tuple
 
 from .kinds import Value, describe
-from .library import RECORD_BYTES
+from .library import QUEUES, RECORD_BYTES
 from .refusals import Refused
 
 
@@ -42,7 +42,7 @@ class Record:
 
     def plausible(self) -> bool:
         """Whether kind, queue and the zeros after them are such as a board writes; kinds of later libraries pass."""
-        return self.kind != 0 and self.queue < 4 and not any(self.data[10:16])
+        return self.kind != 0 and self.queue < QUEUES and not any(self.data[10:16])
 
     @property
     def refused(self) -> Optional[Refused]:
