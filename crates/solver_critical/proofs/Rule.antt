@@ -1,4 +1,4 @@
--- Kinds 5 and 6 answer 27 exactly where specs/NotFinite.antt says. Assumes nothing.
+-- Kinds 5 to 7 answer 27 exactly where specs/NotFinite.antt says. Assumes nothing.
 use mathlib.Core.Path.{_≡_, refl, ap, _∙_}
 use Prim.Native.Nat.{ℕ, zero, suc}
 use mathlib.Core.Bool.{false, not}

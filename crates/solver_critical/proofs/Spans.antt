@@ -1,4 +1,4 @@
--- The longest runs of kinds 5 and 6, whatever the evaluations yield. Assumes nothing.
+-- The longest runs of kinds 5 to 7, whatever the evaluations yield. Assumes nothing.
 use Prim.Native.Nat.{ℕ, zero, suc, _+_, _*_}
 use native.Mathlib.Omega.{arith}
 use mathlib.Core.Path.{_≡_}
@@ -23,7 +23,7 @@ use Rattle.solver_critical.specs.declared.types.Point.{Point}
 use Rattle.solver_critical.specs.CriticalPoint.{tested6, converged, solved, afterSolve, afterConditions, orElse, trialTemperatures, startDensity, hkmFrom, criticalPointHkm, trials, fromTemperature, criticalPoint}
 use Rattle.solver_critical.specs.Spinodal.{afterStability, spinodalFrom, calculateSpinodal, afterLiquid, afterVapor, afterCritical, spinodal}
 
--- ---- kind 5
+-- ---- kinds 5 and 7
 within-tested6 : {n : ℕ} {s : Search} (y : Criticality) → Within n s → Within n (tested6 y s)
 within-tested6 y w =
     within-tested (y .l)

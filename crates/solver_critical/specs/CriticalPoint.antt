@@ -1,4 +1,4 @@
--- `critical_point_hkm` and `critical_point` of critical_point.rs, for one component. Definitions only.
+-- `critical_point_hkm` and `critical_point` of critical_point.rs, for one component or two. Definitions only.
 use Prim.Native.Nat.{ℕ, zero, suc}
 use mathlib.Core.Bool.{Bool, cond}
 use mathlib.Core.List.{List, [], _∷_}
@@ -19,7 +19,7 @@ use Rattle.solver_critical.specs.declared.types.Start.{Start}
 use Rattle.solver_critical.specs.declared.types.Start.the-variants.{None, Given}
 use Rattle.solver_critical.specs.declared.types.Point.{Point}
 
--- the temperature and the density that kind 5 hands out
+-- the temperature and the density that kinds 5 and 7 hand out
 unfoldable pub criticalAnswer : Point → Answer
 criticalAnswer p = Found (record { first = p .t; second = p .rho; third = f0 })
 
@@ -103,6 +103,6 @@ module _ (maxdensity : Float) where
   fromTemperature None ρ = trials ρ trialTemperatures
   fromTemperature (Given t) ρ = criticalPointHkm t ρ
 
-  -- kind 5
+  -- kinds 5 and 7
   unfoldable pub criticalPoint : (temperature density : Start) → Search
   criticalPoint temperature density = fromTemperature temperature (startDensity maxdensity density)

@@ -1,4 +1,4 @@
--- When kinds 5 and 6 end with 27. Definitions only.
+-- When kinds 5 to 7 end with 27. Definitions only.
 use mathlib.Core.Bool.{Bool, false, not, _||_}
 use lib.Ieee.{Float}
 use Rattle.solver.specs.declared.types.DensityInitialization.the-variants.{Vapor, InitialDensity}
@@ -9,7 +9,7 @@ use Rattle.solver_critical.specs.declared.types.Start.the-variants.{None
 use Rattle.solver_critical.specs.CriticalPoint.{startDensity, criticalPointHkm, criticalPoint}
 use Rattle.solver_critical.specs.Spinodal.{liquidStart, calculateSpinodal}
 
--- "a trial of kinds 5 and 6 ended so counts as failed like any other"; "with a given temperature its refusal is final"
+-- "a trial of kinds 5 and 6 ended so counts as failed like any other", of kind 7 "as in kind 5"; "with a given temperature its refusal is final"
 unfoldable pub criticalNotFinite : Evaluator → (maxdensity : Float) → (temperature density : Start) → Bool
 criticalNotFinite ev maxdensity None density = false
 criticalNotFinite ev maxdensity (Given t) density = not (clean ev (criticalPointHkm maxdensity t (startDensity maxdensity density)))

@@ -1,4 +1,4 @@
-// critical_point_hkm and critical_point of critical_point.rs, for one component.
+// critical_point_hkm and critical_point of critical_point.rs, for one component or two.
 ghost use mathlib.Core.Path.{_≡_};
 ghost use Rattle.float.specs.Sign.{finiteOf};
 ghost use Rattle.eos.specs.Cubic.{maxDensity};
@@ -237,7 +237,7 @@ pub fn critical_search(blend: Blend, maxdensity: f64, temperature: Start, densit
     }
 }
 
-// Kind 5. Hands out temperature and density.
+// Kinds 5 and 7. Hands out temperature and density.
 pub fn critical_point(blend: Blend, temperature: Start, density: Start) -> Ran
     ensures { λ r. ⌜ r ≡ run finiteOf (evaluated blend) 0 (criticalPoint (maxDensity blend) temperature density) ⌝ }
 {

@@ -1,4 +1,4 @@
-// The searches of critical_point.rs, run to their end: kinds 5 and 6.
+// The searches of critical_point.rs, run to their end: kinds 5 to 7.
 mod critical;
 mod spinodals;
 mod types;

@@ -1,4 +1,4 @@
--- Kind 5: a spot's evaluation is the one that the search left there makes. Assumes nothing.
+-- Kinds 5 and 7: a spot's evaluation is the one that the search left there makes. Assumes nothing.
 use mathlib.Core.Path.{_≡_, refl, sym, ap, _∙_}
 use Prim.Native.Nat.{ℕ, zero, suc, _≤_}
 use native.Mathlib.Omega.{arith}
@@ -41,7 +41,7 @@ module _ (maxdensity : Float) where
   unfolding settle bind resumeHkm hkmFrom
   hkm-asks s f = refl
 
-  -- ---- kind 5
+  -- ---- kinds 5 and 7
   module _ (ρ : Float) where
     -- the trials from i on
     abbrev from : ℕ → Search

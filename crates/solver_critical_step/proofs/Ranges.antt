@@ -36,7 +36,7 @@ pub asks-fits : (stage tag way rounds : ℕ) (x y : Float) → stage < 5 → tag
 unfolding spotNumbers statusFits
 asks-fits stage tag way rounds x y s t w r = fits _ (record { stage = s; tag = t; status = refl; left = omega arith; way = w; rounds = r })
 
--- ---- kind 5
+-- ---- kinds 5 and 7
 data Few : CriticalPlace → Type 0 where
   ended : {a : Answer} → Few (Critical.Ended a)
   given : {s : HkmSpot} → s .rounds < 50 → Few (Critical.At (Given s))

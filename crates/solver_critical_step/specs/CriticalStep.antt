@@ -1,4 +1,4 @@
--- Kind 5 one evaluation at a time: what is left at a spot, and where its evaluation leads. Definitions only.
+-- Kinds 5 and 7 one evaluation at a time: what is left at a spot, and where its evaluation leads. Definitions only.
 use Prim.Native.Nat.{ℕ, zero, suc}
 use mathlib.Core.Bool.{cond}
 use lib.Dec.{ltb}
@@ -46,7 +46,7 @@ module _ (maxdensity : Float) where
   unfoldable pub hkmNext : Evaluator → HkmSpot → HkmPlace
   hkmNext ev s = hkmOn (s .rounds) (criticalRound maxdensity (s .p) (ev criticality (s .p .t) (s .p .rho)))
 
--- ---- kind 5
+-- ---- kinds 5 and 7
 
 -- the density of the spot's evaluation
 unfoldable pub criticalAt : CriticalSpot → Float

@@ -1,4 +1,4 @@
--- The places of kinds 5 and 6 as numbers and back. Every number is read as some place. Definitions only.
+-- The places of kinds 5 to 7 as numbers and back. Every number is read as some place. Definitions only.
 use Prim.Native.Nat.{ℕ}
 use mathlib.Core.Bool.{cond}
 use lib.Dec.{eqb}
@@ -25,7 +25,7 @@ spotNumbers stage tag way rounds x y =
       values = record { first = x; second = y; third = f0 };
     }
 
--- ---- kind 5: tag 0 is the end, 1 a round from a given temperature, any other a trial's, and `way` says which trial
+-- ---- kinds 5 and 7: tag 0 is the end, 1 a round from a given temperature, any other a trial's, and `way` says which trial
 unfoldable pub criticalSpotNumbers : (stage : ℕ) → CriticalSpot → Numbers
 criticalSpotNumbers stage (Given s) = spotNumbers stage 1 0 (s .rounds) (s .p .t) (s .p .rho)
 criticalSpotNumbers stage (Trial i s) = spotNumbers stage 2 i (s .rounds) (s .p .t) (s .p .rho)

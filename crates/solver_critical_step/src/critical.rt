@@ -1,4 +1,4 @@
-// Kind 5 one evaluation at a time.
+// Kinds 5 and 7 one evaluation at a time.
 ghost use mathlib.Core.Path.{_≡_};
 ghost use Prim.Native.Nat.{suc};
 ghost use Rattle.solver.specs.Evaluated.{evaluated};

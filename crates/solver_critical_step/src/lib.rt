@@ -1,4 +1,4 @@
-// The searches of kinds 5 and 6, one evaluation at a time.
+// The searches of kinds 5 to 7, one evaluation at a time.
 mod critical;
 mod spinodals;
 mod stored;

@@ -1,4 +1,4 @@
-// The places of kinds 5 and 6 as the numbers that a board stores, and back.
+// The places of kinds 5 to 7 as the numbers that a board stores, and back.
 ghost use mathlib.Core.Path.{_≡_};
 ghost use Rattle.solver_critical_step.specs.Stored.{spotNumbers, criticalSpotNumbers, criticalNumbers, hkmSpotBy, criticalSpotBy, criticalPlaceBy, spinodalsNumbers, stabilitySpotBy, spinodalsSpotBy, spinodalsPlaceBy};
 use crate::types::CriticalPlace;

@@ -13,7 +13,7 @@ pub enum HkmPlace {
     At(HkmSpot),
 }
 
-// In the search of kind 5: from a given temperature, or in a trial, the trials counted from 0.
+// In the search of kinds 5 and 7: from a given temperature, or in a trial, the trials counted from 0.
 pub enum CriticalSpot {
     Given(HkmSpot),
     Trial { trial: u64, at: HkmSpot },

@@ -1,4 +1,4 @@
-// The searches of all six kinds under way, as a board keeps them.
+// The searches of all kinds under way, as a board keeps them.
 mod state;
 mod types;
 

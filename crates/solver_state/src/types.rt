@@ -4,7 +4,7 @@ use solver_critical::Start;
 use solver_density::Branch;
 use solver_density::Conditions;
 
-// What the search of each kind, 1 to 6, works with beside the blend.
+// What the search of each kind works with beside the blend.
 pub enum Job {
     Density(Conditions),
     StableDensity {

@@ -1,4 +1,4 @@
--- Kinds 5 and 6: the floats of a search's first state and of each later one are values of binary64. What an evaluation yields need not be one, since
+-- Kinds 5 to 7: the floats of a search's first state and of each later one are values of binary64. What an evaluation yields need not be one, since
 -- each float that is stored is an operation's result, the larger of two, or was stored before. Assumes nothing.
 use Prim.Native.Nat.{ℕ, zero, suc}
 use mathlib.Core.Bool.{_||_}
@@ -112,7 +112,7 @@ stable-held maxdensity ρ y =
     let h = stability-step-held maxdensity ρ y in
     cond-keeps StableHeld (bothFinite (y .f) (y .df)) _ _ (cond-keeps StableHeld (finiteOf ρ′) _ _ (cond-keeps StableHeld (lt (absOf (y .f)) d1e-8) _ _ (two h zero-fits) h) none) none
 
--- ---- kind 5
+-- ---- kinds 5 and 7
 abbrev CriticalHeld : CriticalPlace → Type 0
 CriticalHeld x = ValuesStorable (criticalNumbers x .values)
 
