@@ -29,7 +29,7 @@ unfolding verdict submitVerdict turnVerdict lookVerdict not-6
 verdict-not-6 size σ (Submit queue kind n block) =
     check-not (leb queue 3) 1 _ (omega arith)
     (check-not (kindFits kind) 2 _ (omega arith)
-    (check-not (countFits n) 3 _ (omega arith)
+    (check-not (countFits kind n) 3 _ (omega arith)
     (check-not (eqb (size block) 640) 8 _ (omega arith)
     (check-not (ltb (length (σ .queues queue .jobs)) 8) 4 _ (omega arith) accept-not))))
 verdict-not-6 size σ (Turn buffer) = check-not (leb 64 (size buffer)) 5 _ (omega arith) accept-not

@@ -59,7 +59,7 @@ check ok number next = cond ok next (refuse number)
 unfoldable pub submitVerdict : (queue kind n size held : ℕ) → Verdict
 submitVerdict queue kind n size held =
     check (leb queue 3) 1
-    (check (kindFits kind) 2 (check (countFits n) 3 (check (eqb size 640) 8 (check (ltb held 8) 4 accept))))
+    (check (kindFits kind) 2 (check (countFits kind n) 3 (check (eqb size 640) 8 (check (ltb held 8) 4 accept))))
 
 -- "5 record buffer under 64 bytes"
 unfoldable pub turnVerdict : (size : ℕ) → Verdict
