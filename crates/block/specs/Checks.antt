@@ -63,7 +63,7 @@ sumFits kind n row = not (readsFractions kind) || nearOne (fractionSum n row)
 unfoldable pub temperatureFits : (kind : ℕ) → Float → Bool
 temperatureFits kind t = positive t || (zeroIsNone kind && plusZero t)
 
--- "15 a used temperature not finite and positive (kind 5: or +0), used pressure or start not finite"
+-- "15 a used temperature not finite and positive (kind 5: or +0), used pressure or start not finite"; kind 7 as kind 5
 unfoldable pub conditionsFit : (kind : ℕ) → Conditions → Bool
 conditionsFit kind c = temperatureFits kind (c .temperature) && (finiteOf (c .pressure) && finiteOf (c .start))
 

@@ -44,14 +44,14 @@ filedIn n s = record {
 
 -- "Kinds 5 and 6 read no fractions": they search one component, the others the whole blend
 unfoldable pub readsFractions : (kind : ℕ) → Bool
-readsFractions kind = leb kind 4
+readsFractions kind = not (eqb kind 5 || eqb kind 6)
 
 unfoldable pub fractionCount : (kind n : ℕ) → ℕ
 fractionCount kind n = cond (readsFractions kind) n 0
 
--- "Kind 5 reads +0 in temperature or start as none"
+-- "Kind 5 reads +0 in temperature or start as none"; kind 7 uses "only temperature and start, as kind 5 reads them"
 unfoldable pub zeroIsNone : (kind : ℕ) → Bool
-zeroIsNone kind = eqb kind 5
+zeroIsNone kind = eqb kind 5 || eqb kind 7
 
 -- "Choice: kind 1 ..; kind 4 ..; kinds 5 and 6, the component"
 unfoldable pub usesChoice : (kind : ℕ) → Bool

@@ -9,7 +9,10 @@ use crate::types::Conditions;
 pub fn reads_fractions(kind: u64) -> bool
     ensures { λ r. ⌜ r ≡ readsFractions kind ⌝ }
 {
-    kind <= 4
+    if kind == 5 {
+        return false;
+    }
+    kind != 6
 }
 
 pub fn fraction_count(kind: u64, n: usize) -> usize
@@ -24,7 +27,10 @@ pub fn fraction_count(kind: u64, n: usize) -> usize
 pub fn zero_is_none(kind: u64) -> bool
     ensures { λ r. ⌜ r ≡ zeroIsNone kind ⌝ }
 {
-    kind == 5
+    if kind == 5 {
+        return true;
+    }
+    kind == 7
 }
 
 fn uses_choice(kind: u64) -> bool
