@@ -57,11 +57,11 @@ module _ (P : Job → Type 0) where
   unfolding view
   view-keeps kind n s r h =
       check-keeps (kindFits kind) 2 _ (r 2 refl)
-      (check-keeps (countFits n) 3 _ (r 3 refl)
+      (check-keeps (countFits kind n) 3 _ (r 3 refl)
       (check-keeps (eqb (length s) 640) 8 _ (r 8 refl) (data-keeps kind n s (λ number e. r number (of-data-low number e)) h)))
 
   -- a request that submit accepts is refused by its data alone
-  pub request-keeps : (kind n : ℕ) (s : List ℕ) → kindFits kind ≡ true → countFits n ≡ true → length s ≡ 640 → ((number : ℕ) → OfData number → P (refused number))
+  pub request-keeps : (kind n : ℕ) (s : List ℕ) → kindFits kind ≡ true → countFits kind n ≡ true → length s ≡ 640 → ((number : ℕ) → OfData number → P (refused number))
       → P (readyJob kind n (numbersOf kind n s)) → P (view kind n s)
   unfolding view
   request-keeps kind n s k c l r h = rw (k, c, eq-eqb (length s) 640 l) (data-keeps kind n s r h)
@@ -78,7 +78,7 @@ module _ (P : Task → Type 0) where
       → P (CriticalPoint (givenOf (c .temperature)) (givenOf (c .start))) → P (Spinodal (c .temperature)) → P (taskOf kind c)
   unfolding taskOf
   task-keeps kind c p₁ p₂ p₃ p₄ p₅ p₆ =
-      cond-keeps (eqb kind 1) _ _ p₁ (cond-keeps (eqb kind 2) _ _ p₂ (cond-keeps (eqb kind 3) _ _ p₃ (cond-keeps (eqb kind 4) _ _ p₄ (cond-keeps (eqb kind 5) _ _ p₅ p₆))))
+      cond-keeps (eqb kind 1) _ _ p₁ (cond-keeps (eqb kind 2) _ _ p₂ (cond-keeps (eqb kind 3) _ _ p₃ (cond-keeps (eqb kind 4) _ _ p₄ (cond-keeps (eqb kind 6) _ _ p₆ p₅))))
 
 -- ---- a job that is refused, and one that is not
 
@@ -119,7 +119,7 @@ check-passed false number next e = absurd (omega arith)
 -- each check that its job rests on, and the job
 pub record Passed (kind n size : ℕ) (pairs : Bool) (d : Numbers) : Type 0 where
   pub kind-fits : kindFits kind ≡ true
-  pub count-fits : countFits n ≡ true
+  pub count-fits : countFits kind n ≡ true
   pub size-fits : eqb size 640 ≡ true
   pub pairs-fit : pairs ≡ true
   pub job : checked kind n d ≡ readyJob kind n d
@@ -138,7 +138,7 @@ data-passed kind n d e =
 pub requested-passed : (kind n size : ℕ) (pairs : Bool) (d : Numbers) → refusalOf (requested kind n size pairs d .task) ≡ 0 → Passed kind n size pairs d
 requested-passed kind n size pairs d e =
     let p₁ = check-passed (kindFits kind) 1 _ e in
-    let p₂ = check-passed (countFits n) 2 _ (p₁ .1) in
+    let p₂ = check-passed (countFits kind n) 2 _ (p₁ .1) in
     let p₃ = check-passed (eqb size 640) 7 _ (p₂ .1) in
     let p₄ = check-passed pairs 10 _ (p₃ .1) in
     record { kind-fits = p₁ .0; count-fits = p₂ .0; size-fits = p₃ .0; pairs-fit = p₄ .0; job = data-passed kind n d (p₄ .1) }

@@ -32,18 +32,18 @@ initialOf choice start = cond (eqb choice 0) Initial.Vapor (cond (eqb choice 1) 
 unfoldable pub branchOf : (choice : ℕ) → Branch
 branchOf choice = cond (eqb choice 0) Branch.Vapor Branch.Liquid
 
--- "Kind 5 reads +0 in temperature or start as none"
+-- "Kind 5 reads +0 in temperature or start as none"; kind 7 too
 unfoldable pub givenOf : Float → Start
 givenOf x = cond (plusZero x) None (Given x)
 
--- "Kinds and spans"
+-- "Kinds and spans"; kinds 5 and 7 search a critical point, kind 5 of one component and kind 7 of the blend
 unfoldable pub taskOf : (kind : ℕ) → Conditions → Task
 taskOf kind c =
     cond (eqb kind 1) (DensityIteration (c .temperature) (c .pressure) (initialOf (c .choice) (c .start)))
     (cond (eqb kind 2) (DensityIterationStable (c .temperature) (c .pressure))
     (cond (eqb kind 3) (PressureSpinodal (c .temperature) (c .start))
     (cond (eqb kind 4) (PressureSpinodalBranch (c .temperature) (branchOf (c .choice)))
-    (cond (eqb kind 5) (CriticalPoint (givenOf (c .temperature)) (givenOf (c .start))) (Spinodal (c .temperature))))))
+    (cond (eqb kind 6) (Spinodal (c .temperature)) (CriticalPoint (givenOf (c .temperature)) (givenOf (c .start)))))))
 
 -- the whole blend, or in kinds 5 and 6 the chosen component alone
 unfoldable pub searched : (kind choice : ℕ) → Blend → Blend
@@ -84,12 +84,11 @@ checked kind n d =
     (check (fractionsFit n (d .fractions)) 14
     (check (sumFits kind n (d .fractions)) 17 (lastChecks kind n (d .conditions) (blendOf n d)))))
 
--- "2 kind not 1 to 6; 3 N not 1 to 8; .. 8 block not 640 bytes", in submit's order; then the data, of which 11 comes before the numbers. The reader of a block and the
--- writer of one go by it
+-- 2, 3 and 8 in submit's order; then the data, of which 11 comes before the numbers. The reader of a block and the writer of one go by it
 abbrev pub requested : (kind n size : ℕ) (pairs : Bool) → Numbers → Job
 requested kind n size pairs d =
     check (kindFits kind) 2
-    (check (countFits n) 3
+    (check (countFits kind n) 3
     (check (eqb size 640) 8
     (check pairs 11
     (checked kind n d))))

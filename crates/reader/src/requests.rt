@@ -77,10 +77,10 @@ fn task(kind: u64, c: Conditions) -> Task
     if kind == 4 {
         return Task::PressureSpinodalBranch(c.temperature, branch(c.choice));
     }
-    if kind == 5 {
-        return Task::CriticalPoint(given(c.temperature), given(c.start));
+    if kind == 6 {
+        return Task::Spinodal(c.temperature);
     }
-    Task::Spinodal(c.temperature)
+    Task::CriticalPoint(given(c.temperature), given(c.start))
 }
 
 // Whether a number is one of the data's refusals.
@@ -184,7 +184,7 @@ pub fn read(
     if !schedule::kind_fits(kind) {
         return Task::Refused(2);
     }
-    if !schedule::count_fits(n) {
+    if !schedule::count_fits(kind, n) {
         return Task::Refused(3);
     }
     if block.len() != 640 {

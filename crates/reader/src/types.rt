@@ -4,7 +4,7 @@ use solver::DensityInitialization;
 use solver_critical::Start;
 use solver_density::Branch;
 
-// What a job does, kinds 1 to 6 under the names of the Rust's functions; or the number of the refusal.
+// What a job does, under the names of the Rust's functions; or the number of the refusal.
 pub enum Task {
     Refused(u64),
     // temperature, pressure, where to start

@@ -27,7 +27,7 @@ unfolding view
 returns-3 c = rw (sym (c .before .before .before .before .kind-fits .ensures) ∙ not-false _ (c .before .before .before .if1 .left), sym (c .before .before .count-fits .ensures) ∙ not-false _ (c .before .if2 .left), ne-eqb _ _ (c .if3 .taken)) (refused-reads 8 _ _ refl)
 
 pairs-fit-requires : tie.Need-pairs-fit-requires
-pairs-fit-requires c κs = let w = count-within _ (sym (c .before .before .count-fits .ensures) ∙ not-false _ (c .before .if2 .left)) in (w .low, w .high, c .if3 .left)
+pairs-fit-requires c κs = let w = count-within _ _ (sym (c .before .before .count-fits .ensures) ∙ not-false _ (c .before .if2 .left)) in (w .low, w .high, c .if3 .left)
 
 returns-4 : tie.Need-returns-4
 unfolding view
@@ -35,7 +35,7 @@ returns-4 c = rw (sym (c .before .before .before .before .before .before .kind-f
 
 checked-requires : tie.Need-checked-requires
 checked-requires c κs =
-    let w = count-within _ (sym (c .before .before .before .before .before .before .before .before .before .before .count-fits .ensures) ∙ not-false _ (c .before .before .before .before .before .before .before .before .before .if2 .left)) in
+    let w = count-within _ _ (sym (c .before .before .before .before .before .before .before .before .before .before .count-fits .ensures) ∙ not-false _ (c .before .before .before .before .before .before .before .before .before .if2 .left)) in
     let z = c .before .before .before .before .before .before .before .before .before .before .before .before .before .before .pre in
     (w .low, w .high, c .before .before .before .before .before .before .before .before .if3 .left, sym (c .before .before .before .before .before .before .before .pairs-fit .ensures) ∙ not-false _ (c .before .before .before .before .before .before .if4 .left), z .0, z .1, z .2, z .3, z .4, z .5)
 

@@ -27,19 +27,19 @@ returns-4 : tie.Need-returns-4
 unfolding taskOf
 returns-4 c = simp (ne-eqb _ _ (c .before .before .before .before .if1 .left), ne-eqb _ _ (c .before .before .before .if2 .left), ne-eqb _ _ (c .before .before .if3 .left), eq-eqb _ _ (c .before .if4 .taken), ← c .branch .ensures)
 
+returns-5 : tie.Need-returns-5
+unfolding taskOf
+returns-5 c = simp (ne-eqb _ _ (c .before .before .before .before .if1 .left), ne-eqb _ _ (c .before .before .before .if2 .left), ne-eqb _ _ (c .before .before .if3 .left), ne-eqb _ _ (c .before .if4 .left), eq-eqb _ _ (c .if5 .taken))
+
 given-requires : tie.Need-given-requires
 given-requires c κs = search needs
 
 given-requires-2 : tie.Need-given-requires-2
 given-requires-2 c κs = search needs
 
-returns-5 : tie.Need-returns-5
-unfolding taskOf
-returns-5 c = simp (ne-eqb _ _ (c .before .before .before .before .before .before .if1 .left), ne-eqb _ _ (c .before .before .before .before .before .if2 .left), ne-eqb _ _ (c .before .before .before .before .if3 .left), ne-eqb _ _ (c .before .before .before .if4 .left), eq-eqb _ _ (c .before .before .if5 .taken), ← c .before .given .ensures, ← c .given2 .ensures)
-
 returns-6 : tie.Need-returns-6
 unfolding taskOf
-returns-6 c = simp (ne-eqb _ _ (c .before .before .before .before .if1 .left), ne-eqb _ _ (c .before .before .before .if2 .left), ne-eqb _ _ (c .before .before .if3 .left), ne-eqb _ _ (c .before .if4 .left), ne-eqb _ _ (c .if5 .left))
+returns-6 c = simp (ne-eqb _ _ (c .before .before .before .before .before .before .if1 .left), ne-eqb _ _ (c .before .before .before .before .before .if2 .left), ne-eqb _ _ (c .before .before .before .before .if3 .left), ne-eqb _ _ (c .before .before .before .if4 .left), ne-eqb _ _ (c .before .before .if5 .left), ← c .before .given .ensures, ← c .given2 .ensures)
 
 pub task-spec : {M : Type 1} → statement M
 task-spec =
@@ -51,7 +51,7 @@ task-spec =
     returns-3
     branch-requires
     returns-4
+    returns-5
     given-requires
     given-requires-2
-    returns-5
     returns-6)
