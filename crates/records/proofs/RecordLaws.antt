@@ -47,7 +47,7 @@ pub record-written : (w w₁ w₂ : List ℕ) (ticket kind queue : ℕ) (o : Out
 unfolding recordBytes
 record-written w w₁ w₂ ticket kind queue o e₁ e₂ = rw (e₂, e₁) (sym (rw (splice-append, length-public)))
 
-pub answer-written : (kind n : ℕ) (s w w′ : List ℕ) (job : Job) (o : Outcome) → kindFits kind ≡ true → countFits n ≡ true → length s ≡ 640 → 64 ≤ length w
+pub answer-written : (kind n : ℕ) (s w w′ : List ℕ) (job : Job) (o : Outcome) → kindFits kind ≡ true → countFits kind n ≡ true → length s ≡ 640 → 64 ≤ length w
     → job ≡ view kind n s → o ≡ outcomeOf job → w′ ≡ splice w sealedAt (sealedBytes o) → (Written ≡ answered kind n s w .answer) × (w′ ≡ answered kind n s w .bytes)
 unfolding answered sealedOf
 answer-written kind n s w w′ job o k c l r ej eo ew =

@@ -24,26 +24,26 @@ use Rattle.schedule.specs.Spans.{spanOf}
 use Rattle.records.specs.Span.{CourseWithin, refused-within, search-within}
 
 -- `taskOf`, from the tests of the kind
-unfoldable byKind : Conditions → (k₁ k₂ k₃ k₄ k₅ : Bool) → Task
-byKind c k₁ k₂ k₃ k₄ k₅ =
+unfoldable byKind : Conditions → (k₁ k₂ k₃ k₄ k₆ : Bool) → Task
+byKind c k₁ k₂ k₃ k₄ k₆ =
     cond k₁ (DensityIteration (c .temperature) (c .pressure) (initialOf (c .choice) (c .start)))
     (cond k₂ (DensityIterationStable (c .temperature) (c .pressure))
     (cond k₃ (PressureSpinodal (c .temperature) (c .start))
     (cond k₄ (PressureSpinodalBranch (c .temperature) (branchOf (c .choice)))
-    (cond k₅ (CriticalPoint (givenOf (c .temperature)) (givenOf (c .start))) (Spinodal (c .temperature))))))
+    (cond k₆ (Spinodal (c .temperature)) (CriticalPoint (givenOf (c .temperature)) (givenOf (c .start)))))))
 
 -- each kind's search
 task-within : (maxdensity : Float) (kind : ℕ) (c : Conditions) → CourseWithin (spanOf kind) (courseOf maxdensity (taskOf kind c))
 unfolding spanOf taskOf courseOf byKind
-task-within m kind c = go (eqb kind 1) (eqb kind 2) (eqb kind 3) (eqb kind 4) (eqb kind 5)
+task-within m kind c = go (eqb kind 1) (eqb kind 2) (eqb kind 3) (eqb kind 4) (eqb kind 6)
   where
-    go : (k₁ k₂ k₃ k₄ k₅ : Bool) → CourseWithin (cond k₁ 3101 (cond k₂ 6204 (cond k₃ 30 (cond k₄ 30 (cond k₅ 150 250))))) (courseOf m (byKind c k₁ k₂ k₃ k₄ k₅))
-    go true k₂ k₃ k₄ k₅ = search-within (density-3101 m (c .temperature) (c .pressure) (initialOf (c .choice) (c .start)))
-    go false true k₃ k₄ k₅ = search-within (stable-6204 m (c .temperature) (c .pressure))
-    go false false true k₄ k₅ = search-within (spinodal-30 m (c .temperature) (c .start))
-    go false false false true k₅ = search-within (branch-30 m (c .temperature) (branchOf (c .choice)))
-    go false false false false true = search-within (critical-150 m (givenOf (c .temperature)) (givenOf (c .start)))
-    go false false false false false = search-within (spinodal-250 m (c .temperature))
+    go : (k₁ k₂ k₃ k₄ k₆ : Bool) → CourseWithin (cond k₁ 3101 (cond k₂ 6204 (cond k₃ 30 (cond k₄ 30 (cond k₆ 250 150))))) (courseOf m (byKind c k₁ k₂ k₃ k₄ k₆))
+    go true k₂ k₃ k₄ k₆ = search-within (density-3101 m (c .temperature) (c .pressure) (initialOf (c .choice) (c .start)))
+    go false true k₃ k₄ k₆ = search-within (stable-6204 m (c .temperature) (c .pressure))
+    go false false true k₄ k₆ = search-within (spinodal-30 m (c .temperature) (c .start))
+    go false false false true k₆ = search-within (branch-30 m (c .temperature) (branchOf (c .choice)))
+    go false false false false true = search-within (spinodal-250 m (c .temperature))
+    go false false false false false = search-within (critical-150 m (givenOf (c .temperature)) (givenOf (c .start)))
 
 refused-course : (m number : ℕ) → CourseWithin m (jobCourse (refused number))
 unfolding courseOf refused

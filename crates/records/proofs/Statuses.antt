@@ -24,8 +24,8 @@ use Rattle.reader.specs.View.{taskOf, refused, check, lastChecks, checked, view
 use Rattle.reader.proofs.ViewLaws.{task-keeps}
 use Rattle.records.specs.Outcome.{courseOf, refusedEnd, searchEnd, endOf, outcomeOf}
 use Rattle.records.specs.Record.{floatBytes, sealedBytes, sealedOf}
-use Rattle.schedule.specs.Refusals.{Inside}
-use Rattle.schedule.proofs.Refusals.{inside-true}
+use Rattle.schedule.specs.Refusals.{Inside, CountRight}
+use Rattle.schedule.proofs.Refusals.{inside-true, count-true}
 use Rattle.schedule.proofs.Tests.{span-within}
 use Rattle.records.specs.Statuses.{SearchStatus, found, Status, of-data, of-search, pairs, components, interactions, fractions, sum, conditions, run, DataTests, Statuses}
 use Rattle.records.proofs.SpanLaws.{evaluations-most}
@@ -72,7 +72,7 @@ refused-bytes number = ap (λ (s : List ℕ). bytesOf 8 number ++ s) rest
     rest : floatBytes f0 ++ (floatBytes f0 ++ (floatBytes f0 ++ (bytesOf 8 0 ++ zeros 8))) ≡ zeros 40
     rest = unfold zeros bytesOf toBits ofBits in refl
 
-module _ (kind n : ℕ) (block : List ℕ) (k : Inside 1 6 kind) (c : Inside 1 8 n) (l : length block ≡ 640) where
+module _ (kind n : ℕ) (block : List ℕ) (k : Inside 1 7 kind) (c : CountRight kind n) (l : length block ≡ 640) where
   abbrev job : Job
   job = view kind n block
 
@@ -89,7 +89,7 @@ module _ (kind n : ℕ) (block : List ℕ) (k : Inside 1 6 kind) (c : Inside 1 8
 
   view-is : job ≡ by-checks (pairs kind n block) (components kind n block) (interactions kind n block) (fractions kind n block) (sum kind n block) (conditions kind n block) (run kind n block)
   unfolding view checked lastChecks
-  view-is = rw (inside-true 1 6 kind k, inside-true 1 8 n c, eq-eqb (length block) 640 l)
+  view-is = rw (inside-true 1 7 kind k, count-true kind n c, eq-eqb (length block) 640 l)
 
   status-tests : DataTests kind n block (outcomeOf job .status)
   status-tests = rw view-is (go _ _ _ _ _ _ _ refl refl refl refl refl refl refl)

@@ -10,7 +10,7 @@ use Rattle.records.specs.declared.types.Answered.{Answered}
 use Rattle.records.specs.declared.types.Answered.the-variants.{Written, BadKind, BadCount, BadBlockLength, ShortRecord}
 use Rattle.records.specs.Record.{sealedAt, sealedOf}
 
--- "2 kind not 1 to 6; 3 N not 1 to 8; .. 5 record buffer under 64 bytes; .. 8 block not 640 bytes"; 0 where nothing is refused
+-- "2 kind ..; 3 N ..; .. 5 record buffer under 64 bytes; .. 8 block not 640 bytes"; 0 where nothing is refused
 unfoldable pub numberOf : Answered → ℕ
 numberOf Written = 0
 numberOf BadKind = 2
@@ -31,7 +31,7 @@ check buffer ok refusal next = cond ok next (record { answer = refusal; bytes = 
 unfoldable pub answered : (kind n : ℕ) (block buffer : List ℕ) → Did
 answered kind n block buffer =
     check buffer (kindFits kind) BadKind
-    (check buffer (countFits n) BadCount
+    (check buffer (countFits kind n) BadCount
     (check buffer (eqb (length block) 640) BadBlockLength
     (check buffer (leb 64 (length buffer)) ShortRecord
     (record { answer = Written; bytes = splice buffer sealedAt (sealedOf kind n block) }))))

@@ -12,7 +12,7 @@ use Rattle.block.specs.Checks.{componentsFit, interactionsFit, fractionsFit, su
 use Rattle.block.specs.Blend.{blendOf}
 use Rattle.reader.specs.View.{runFits}
 use Rattle.schedule.specs.Spans.{spanOf}
-use Rattle.schedule.specs.Refusals.{Inside}
+use Rattle.schedule.specs.Refusals.{Inside, CountRight}
 use Rattle.records.specs.Record.{sealedOf}
 
 -- "The equation, sealed", 21 to 27; 0 where an answer is found
@@ -89,4 +89,4 @@ module _ (kind n : ℕ) (block : List ℕ) where
     pub evaluations : evaluationsIn ≤ spanOf kind
 
 abbrev pub Statuses : Type 0
-Statuses = (kind n : ℕ) (block : List ℕ) → Inside 1 6 kind → Inside 1 8 n → length block ≡ 640 → Sealed kind n block
+Statuses = (kind n : ℕ) (block : List ℕ) → Inside 1 7 kind → CountRight kind n → length block ≡ 640 → Sealed kind n block
