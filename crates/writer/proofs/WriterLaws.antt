@@ -32,22 +32,22 @@ use Rattle.writer.proofs.PackedLaws.{same, length-filled, length-packed
 
 -- ---- a packed block is read as the numbers that it was made of
 
-view-packed : (kind n : ℕ) (d : Numbers) → kindFits kind ≡ true → countFits n ≡ true → listsFit n d ≡ true → Representable d → view kind n (packed n d) ≡ checked kind n (asRead kind n d)
+view-packed : (kind n : ℕ) (d : Numbers) → kindFits kind ≡ true → countFits kind n ≡ true → listsFit n d ≡ true → Representable d → view kind n (packed n d) ≡ checked kind n (asRead kind n d)
 unfolding view numbersOf
 view-packed kind n d k c f m =
-    let h = count-within n c .high in
+    let h = count-within kind n c .high in
     rw (k, c, eq-eqb _ _ (length-packed n d f h), packed-fits n d h f, filed-packed n d h f m)
 
 -- and refused by the same number
-verdict-data : (kind n : ℕ) (d : Numbers) → kindFits kind ≡ true → countFits n ≡ true → listsFit n d ≡ true → verdict kind n d 640 ≡ refusalOf (checked kind n (asRead kind n d) .task)
+verdict-data : (kind n : ℕ) (d : Numbers) → kindFits kind ≡ true → countFits kind n ≡ true → listsFit n d ≡ true → verdict kind n d 640 ≡ refusalOf (checked kind n (asRead kind n d) .task)
 unfolding verdict
 verdict-data kind n d k c f = rw (k, c, f)
 
 pub as-the-reader : AsTheReader
 unfolding verdict view refusalOf refused
-as-the-reader kind n d f m = go (kindFits kind) refl (countFits n) refl
+as-the-reader kind n d f m = go (kindFits kind) refl (countFits kind n) refl
   where
-    go : (s : Bool) → kindFits kind ≡ s → (t : Bool) → countFits n ≡ t → verdict kind n d 640 ≡ refusalOf (view kind n (packed n d) .task)
+    go : (s : Bool) → kindFits kind ≡ s → (t : Bool) → countFits kind n ≡ t → verdict kind n d 640 ≡ refusalOf (view kind n (packed n d) .task)
     go false k t c = rw k
     go true k false c = rw (k, c)
     go true k true c = verdict-data kind n d k c f ∙ ap (λ (job : Job). refusalOf (job .task)) (sym (view-packed kind n d k c f m))
@@ -81,7 +81,7 @@ unfolding numbersOf
 what-was-given kind n d buffer m e =
     let p = requested-passed kind n (length buffer) (listsFit n d) (asRead kind n d) (unfold verdict in e) in
     let w = written-packed kind n d buffer e in
-    let h = count-within n (p .count-fits) .high in
+    let h = count-within kind n (p .count-fits) .high in
     let parts = ap (filedIn n) w ∙ filed-packed n d h (p .pairs-fit) m in
     let job = ap (view kind n) w ∙ view-packed kind n d (p .kind-fits) (p .count-fits) (p .pairs-fit) m ∙ p .job in
     record { in-parts = parts; as-read = ap (asRead kind n) parts; as-job = job; not-refused = rw job (ready-no-number kind n (asRead kind n d)) }
@@ -126,13 +126,13 @@ module _ (kind n : ℕ) (d : Numbers) (buffer : List ℕ) where
   pub refuses-2 : kindFits kind ≡ false → Answers kind n d buffer 2 buffer
   refuses-2 k = refuses 1 (ordered kind n d (length buffer) .refused-2 k)
 
-  pub refuses-3 : kindFits kind ≡ true → countFits n ≡ false → Answers kind n d buffer 3 buffer
+  pub refuses-3 : kindFits kind ≡ true → countFits kind n ≡ false → Answers kind n d buffer 3 buffer
   refuses-3 k c = refuses 2 (ordered kind n d (length buffer) .refused-3 k c)
 
-  pub refuses-8 : kindFits kind ≡ true → countFits n ≡ true → (length buffer ≡ 640 → ⊥) → Answers kind n d buffer 8 buffer
+  pub refuses-8 : kindFits kind ≡ true → countFits kind n ≡ true → (length buffer ≡ 640 → ⊥) → Answers kind n d buffer 8 buffer
   refuses-8 k c l = refuses 7 (ordered kind n d (length buffer) .refused-8 k c l)
 
-  pub refuses-11 : kindFits kind ≡ true → countFits n ≡ true → length buffer ≡ 640 → listsFit n d ≡ false → Answers kind n d buffer 11 buffer
+  pub refuses-11 : kindFits kind ≡ true → countFits kind n ≡ true → length buffer ≡ 640 → listsFit n d ≡ false → Answers kind n d buffer 11 buffer
   refuses-11 k c l f = refuses 10 (ordered kind n d (length buffer) .refused-11 k c l f)
 
   -- the reader's number is the verdict
@@ -147,12 +147,12 @@ module _ (kind n : ℕ) (d : Numbers) (buffer : List ℕ) where
   refuses-data number block l f m eb en z = let e = numbered number block l f m eb en in (e, kept _ _ _ (ap (λ (k : ℕ). eqb k 0) (sym e) ∙ ne-eqb number 0 z), λ q. absurd (z q))
 
   -- else the block
-  pub writes : (number : ℕ) (block bytes : List ℕ) → countFits n ≡ true → length buffer ≡ 640 → listsFit n d ≡ true → Representable d → block ≡ packed n d
+  pub writes : (number : ℕ) (block bytes : List ℕ) → countFits kind n ≡ true → length buffer ≡ 640 → listsFit n d ≡ true → Representable d → block ≡ packed n d
       → number ≡ refusalOf (view kind n block .task) → number ≡ 0 → bytes ≡ splice buffer 0 block → Answers kind n d buffer 0 bytes
   unfolding written
   writes number block bytes c l f m eb en z ew =
       let e : 0 ≡ verdict kind n d (length buffer) = sym z ∙ numbered number block l f m eb en in
-      let size = length-packed n d f (count-within n c .high) in
+      let size = length-packed n d f (count-within kind n c .high) in
       (e, ew ∙ ap (splice buffer 0) eb ∙ over buffer (packed n d) (size ∙ sym l) ∙ made _ _ _ (ap (λ (k : ℕ). eqb k 0) (sym e)), λ _. what-was-given kind n d buffer m (sym e))
 
 -- ---- a block read and written again

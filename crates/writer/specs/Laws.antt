@@ -73,9 +73,9 @@ ReadsTheSame = (kind n : ℕ) (block buffer : List ℕ) → length buffer ≡ 64
 -- "by the board's numbers and in its order: 2, 3, 8 for a buffer of another length, .. 11 also for lists of a length that doesn't fit N", whatever comes after
 pub record InOrder (kind n : ℕ) (d : Numbers) (size : ℕ) : Type 0 where
   pub refused-2 : kindFits kind ≡ false → verdict kind n d size ≡ 2
-  pub refused-3 : kindFits kind ≡ true → countFits n ≡ false → verdict kind n d size ≡ 3
-  pub refused-8 : kindFits kind ≡ true → countFits n ≡ true → (size ≡ 640 → ⊥) → verdict kind n d size ≡ 8
-  pub refused-11 : kindFits kind ≡ true → countFits n ≡ true → size ≡ 640 → listsFit n d ≡ false → verdict kind n d size ≡ 11
+  pub refused-3 : kindFits kind ≡ true → countFits kind n ≡ false → verdict kind n d size ≡ 3
+  pub refused-8 : kindFits kind ≡ true → countFits kind n ≡ true → (size ≡ 640 → ⊥) → verdict kind n d size ≡ 8
+  pub refused-11 : kindFits kind ≡ true → countFits kind n ≡ true → size ≡ 640 → listsFit n d ≡ false → verdict kind n d size ≡ 11
 
 abbrev pub Ordered : Type 0
 Ordered = (kind n : ℕ) (d : Numbers) (size : ℕ) → InOrder kind n d size

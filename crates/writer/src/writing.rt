@@ -51,7 +51,7 @@ pub fn write_block(
     if !schedule::kind_fits(kind) {
         return 2;
     }
-    if !schedule::count_fits(n) {
+    if !schedule::count_fits(kind, n) {
         return 3;
     }
     if buffer.len() != 640 {

@@ -24,7 +24,7 @@ returns-3 : tie.Need-returns-3
 returns-3 c = refuses-8 _ _ _ _ (sym (c .before .before .before .before .kind-fits .ensures) ∙ not-false _ (c .before .before .before .if1 .left)) (sym (c .before .before .count-fits .ensures) ∙ not-false _ (c .before .if2 .left)) (c .if3 .taken)
 
 counts-fit-requires : tie.Need-counts-fit-requires
-counts-fit-requires c κs = let w = count-within _ (sym (c .before .before .count-fits .ensures) ∙ not-false _ (c .before .if2 .left)) in (w .low, w .high)
+counts-fit-requires c κs = let w = count-within _ _ (sym (c .before .before .count-fits .ensures) ∙ not-false _ (c .before .if2 .left)) in (w .low, w .high)
 
 returns-4 : tie.Need-returns-4
 returns-4 c = refuses-11 _ _ _ _ (sym (c .before .before .before .before .before .before .kind-fits .ensures) ∙ not-false _ (c .before .before .before .before .before .if1 .left)) (sym (c .before .before .before .before .count-fits .ensures) ∙ not-false _ (c .before .before .before .if2 .left)) (c .before .before .if3 .left) (sym (c .before .counts-fit .ensures) ∙ not-true _ (c .if4 .taken))
@@ -33,7 +33,7 @@ slice-aggregate-fill : tie.Need-slice-aggregate-fill
 slice-aggregate-fill c = search needs
 
 fill-requires : tie.Need-fill-requires
-fill-requires c κs = let w = count-within _ (sym (c .before .before .before .before .before .count-fits .ensures) ∙ not-false _ (c .before .before .before .before .if2 .left)) in (w .low, w .high, search needs, (sym (c .before .before .counts-fit .ensures) ∙ not-false _ (c .before .if4 .left)))
+fill-requires c κs = let w = count-within _ _ (sym (c .before .before .before .before .before .count-fits .ensures) ∙ not-false _ (c .before .before .before .before .if2 .left)) in (w .low, w .high, search needs, (sym (c .before .before .counts-fit .ensures) ∙ not-false _ (c .before .if4 .left)))
 
 slice-aggregate-refusal : tie.Need-slice-aggregate-refusal
 slice-aggregate-refusal c = search needs
@@ -47,7 +47,7 @@ returns-5 c =
     let count = (sym (c .before .before .before .before .before .before .before .before .before .before .count-fits .ensures) ∙ not-false _ (c .before .before .before .before .before .before .before .before .before .if2 .left)) in
     let lists = (sym (c .before .before .before .before .before .before .before .counts-fit .ensures) ∙ not-false _ (c .before .before .before .before .before .before .if4 .left)) in
     let filled = c .before .before .before .before .fill .ensures in
-    refuses-data _ _ _ _ _ _ (c .before .before .before .before .before .before .before .before .if3 .left) lists (filled .1) (over-zeros _ _ _ _ (count-within _ count .high) lists refl (filled .0)) (c .before .refusal .ensures) (c .if5 .taken)
+    refuses-data _ _ _ _ _ _ (c .before .before .before .before .before .before .before .before .if3 .left) lists (filled .1) (over-zeros _ _ _ _ (count-within _ _ count .high) lists refl (filled .0)) (c .before .refusal .ensures) (c .if5 .taken)
 
 slice-aggregate-put-part : tie.Need-slice-aggregate-put-part
 slice-aggregate-put-part c = search needs
@@ -64,7 +64,7 @@ returns-6 c =
     let count = (sym (c .before .before .before .before .before .before .before .before .before .before .before .before .before .before .before .count-fits .ensures) ∙ not-false _ (c .before .before .before .before .before .before .before .before .before .before .before .before .before .before .if2 .left)) in
     let lists = (sym (c .before .before .before .before .before .before .before .before .before .before .before .before .counts-fit .ensures) ∙ not-false _ (c .before .before .before .before .before .before .before .before .before .before .before .if4 .left)) in
     let filled = c .before .before .before .before .before .before .before .before .before .fill .ensures in
-    writes _ _ _ _ _ _ _ count (c .before .before .before .before .before .before .before .before .before .before .before .before .before .if3 .left) lists (filled .1) (over-zeros _ _ _ _ (count-within _ count .high) lists refl (filled .0)) (c .before .before .before .before .before .before .refusal .ensures) (c .before .before .before .before .before .if5 .left) (c .before .before .put-part .ensures)
+    writes _ _ _ _ _ _ _ count (c .before .before .before .before .before .before .before .before .before .before .before .before .before .if3 .left) lists (filled .1) (over-zeros _ _ _ _ (count-within _ _ count .high) lists refl (filled .0)) (c .before .before .before .before .before .before .refusal .ensures) (c .before .before .before .before .before .if5 .left) (c .before .before .put-part .ensures)
 
 pub write-block-spec : {M : Type 1} → statement M
 write-block-spec =
