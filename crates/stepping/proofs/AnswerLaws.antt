@@ -29,7 +29,7 @@ after-one-more job k s s′ e f = let q : k + 1 ≡ suc k = omega arith in rw q 
 pub after-all : (job : Job) (k turns : ℕ) (s : State) → k ≤ turns → turns ≤ k → s ≡ stateAfter job k → s ≡ stateAfter job turns
 after-all job k turns s l m e = let q : k ≡ turns = omega arith in rw q at e
 
-pub answer-stepped : (kind n : ℕ) (block w w′ : List ℕ) (job : Job) (m : ℕ) (s : State) (o : Outcome) → kindFits kind ≡ true → countFits n ≡ true → length block ≡ 640 → 64 ≤ length w
+pub answer-stepped : (kind n : ℕ) (block w w′ : List ℕ) (job : Job) (m : ℕ) (s : State) (o : Outcome) → kindFits kind ≡ true → countFits kind n ≡ true → length block ≡ 640 → 64 ≤ length w
     → job ≡ view kind n block → m ≡ spanOf kind → s ≡ stateAfter job m → o ≡ outcomeAt s → w′ ≡ splice w sealedAt (sealedBytes o)
     → (Written ≡ answered kind n block w .answer) × (w′ ≡ answered kind n block w .bytes)
 unfolding answered

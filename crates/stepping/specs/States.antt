@@ -21,7 +21,7 @@ use Rattle.stepping.specs.Stepping.{startOf, stepOf, resultOf}
 -- a request that submit accepts
 pub record Request (kind n : ℕ) (block : List ℕ) : Type 0 where
   pub kind-fits : kindFits kind ≡ true
-  pub count-fits : countFits n ≡ true
+  pub count-fits : countFits kind n ≡ true
   pub block-fits : length block ≡ 640
 
 -- the state of a job after k turns

@@ -43,7 +43,7 @@ pub fn answer(kind: u64, n: u64, block: &[u8], record: &mut [u8]) -> Answered
     if !schedule::kind_fits(kind) {
         return Answered::BadKind;
     }
-    if !schedule::count_fits(n) {
+    if !schedule::count_fits(kind, n) {
         return Answered::BadCount;
     }
     if block.len() != 640 {
