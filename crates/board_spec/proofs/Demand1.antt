@@ -15,9 +15,9 @@ use Rattle.records.specs.Statuses.{Sealed}
 use Rattle.records.proofs.Statuses.{statuses}
 use Rattle.schedule.specs.Spans.{spanOf}
 use Rattle.schedule.specs.Schedule.{Held, Schedule, Call, Submit, Turn, Look, served, Verdict, accept, refuse, check, submitVerdict, turnVerdict, lookVerdict, Undergone, turned, undergo, verdict, serves, turnTaken, acts, judged, happens, afterAll, fresh, mapCall}
-use Rattle.schedule.specs.Refusals.{Inside, SubmitTests, TurnTests, LookTests}
-use Rattle.schedule.proofs.Refusals.{inside-true, true-inside}
-use Rattle.schedule.proofs.Tests.{check-ok, check-next}
+use Rattle.schedule.specs.Refusals.{Inside, CountRight, SubmitTests, TurnTests, LookTests}
+use Rattle.schedule.proofs.Refusals.{inside-true, true-inside, count-true}
+use Rattle.schedule.proofs.Tests.{check-ok, check-next, count-right}
 use Rattle.stepping.specs.States.{Request, stateAfter, outcomeAt}
 use Rattle.stepping.proofs.Laws.{stepping}
 use Rattle.board_spec.specs.Layout.{acceptedAt, heldAt, turnsAt}
@@ -170,14 +170,14 @@ module _ (b b′ : Bytes) (same : SamePublic b b′) where
 
 -- ---- every other request runs to an answer
 
-request-tests : {queue kind n size held : ℕ} → SubmitTests queue kind n size held accept → (Inside 1 6 kind) × (Inside 1 8 n) × (size ≡ 640)
+request-tests : {queue kind n size held : ℕ} → SubmitTests queue kind n size held accept → Inside 1 7 kind × CountRight kind n × (size ≡ 640)
 request-tests (SubmitTests.passed q k c s h) = (k, c, s)
 
-ticket-tests : {b : Bytes} {queue kind n : ℕ} {block : Bytes} {ticket : ℕ} → SubmitAnswers b queue kind n block (Ticket ticket) → (Inside 1 6 kind) × (Inside 1 8 n) × (length block ≡ 640)
+ticket-tests : {b : Bytes} {queue kind n : ℕ} {block : Bytes} {ticket : ℕ} → SubmitAnswers b queue kind n block (Ticket ticket) → Inside 1 7 kind × CountRight kind n × (length block ≡ 640)
 ticket-tests (SubmitAnswers.accepted p s) = request-tests s
 
 module _ (b : Bytes) (queue kind n : ℕ) (block : Bytes) (ticket : ℕ) (e : submitBoard b queue kind n block .answer ≡ Ticket ticket) where
-  request : (Inside 1 6 kind) × (Inside 1 8 n) × (length block ≡ 640)
+  request : Inside 1 7 kind × CountRight kind n × (length block ≡ 640)
   request = ticket-tests (subst (λ (a : Answer). SubmitAnswers b queue kind n block a) e (submit-holds b queue kind n block))
 
   accepted-sealed : Sealed kind n block
@@ -185,11 +185,11 @@ module _ (b : Bytes) (queue kind n : ℕ) (block : Bytes) (ticket : ℕ) (e : su
 
   accepted-ends : sealedBytes (outcomeAt (stateAfter (view kind n block) (spanOf kind))) ≡ sealedOf kind n block
   accepted-ends =
-      stepping .finished kind n block (record { kind-fits = inside-true 1 6 kind (request .0); count-fits = inside-true 1 8 n (request .1); block-fits = request .2 })
+      stepping .finished kind n block (record { kind-fits = inside-true 1 7 kind (request .0); count-fits = count-true kind n (request .1); block-fits = request .2 })
 
 -- a job that is handed out is a request
 sealed-request : (kind n : ℕ) (block : Bytes) → Request kind n block → Sealed kind n block
-sealed-request kind n block r = statuses kind n block (true-inside 1 6 kind (r .kind-fits)) (true-inside 1 8 n (r .count-fits)) (r .block-fits)
+sealed-request kind n block r = statuses kind n block (true-inside 1 7 kind (r .kind-fits)) (count-right kind n (r .count-fits)) (r .block-fits)
 
 request-out : (count : ℕ) (js : List (Held Bytes)) (q : Bytes) → RepQueue count js q → (j : Held Bytes) → undergo js .out ≡ some j → Request (j .kind) (j .n) (j .block)
 unfolding undergo turned
@@ -225,7 +225,7 @@ released run x =
 
 all-spans : Spans
 unfolding spanOf
-all-spans = record { kind-1 = refl; kind-2 = refl; kind-3 = refl; kind-4 = refl; kind-5 = refl; kind-6 = refl }
+all-spans = record { kind-1 = refl; kind-2 = refl; kind-3 = refl; kind-4 = refl; kind-5 = refl; kind-6 = refl; kind-7 = refl }
 
 same-board : (b : Bytes) → SamePublic b b
 same-board b = record { six = refl; turn = refl; queues = λ queue h. record { count = refl; held = refl; turns = refl; kind = refl } }

@@ -9,7 +9,7 @@ use borrow.Author.Tests.{le-leb, leb-true}
 use Rattle.buf.specs.Bytes.{part, numAt, u64At, putU64}
 use Rattle.buf.proofs.Laws.{length-putNum, numAt-lt, get-put-same, get-put-before, get-put-after}
 use Rattle.schedule.specs.Spans.{kindFits, countFits}
-use Rattle.schedule.proofs.Tests.{right-true}
+use Rattle.schedule.proofs.Tests.{right-true, count-within}
 use Rattle.solver_state.specs.declared.types.State.{State}
 use Rattle.stepping.specs.States.{Request}
 use Rattle.stepping.specs.Storable.{Storable}
@@ -25,10 +25,10 @@ ticket-low : (x : ℕ) → x % 2 ^ 64 < 2 ^ 64
 ticket-low x = omega arith
 
 kind-low : (kind : ℕ) → kindFits kind ≡ true → kind < 2 ^ 64
-kind-low kind e = let h = leb-true kind 6 (right-true (leb 1 kind) (leb kind 6) e) in omega arith
+kind-low kind e = let h = leb-true kind 7 (right-true (leb 1 kind) (leb kind 7) e) in omega arith
 
-count-low : (n : ℕ) → countFits n ≡ true → n < 2 ^ 64
-count-low n e = let h = leb-true n 8 (right-true (leb 1 n) (leb n 8) e) in omega arith
+count-low : (kind n : ℕ) → countFits kind n ≡ true → n < 2 ^ 64
+count-low kind n e = let h = count-within kind n e in omega arith
 
 -- the quarter p after q was given another job
 pub record Added (p q : Bytes) (kind n : ℕ) (block : Bytes) : Type 0 where
@@ -112,7 +112,7 @@ module _ (q : Bytes) (l : length q ≡ quarterLength) where
               get-put-after 8 8 counted heldAt _ turnsAt refl ∙ get-put-after 8 8 put-in acceptedAt _ turnsAt refl ∙ num-head put-in q (head-job q slot kind n block) turnsAt refl;
           state = state-filled;
           new-kind = a .kind ∙ kind-put q slot kind n block l slot-fits (kind-low kind (ok .kind-fits));
-          new-n = a .n ∙ count-put q slot kind n block l slot-fits (count-low n (ok .count-fits));
+          new-n = a .n ∙ count-put q slot kind n block l slot-fits (count-low kind n (ok .count-fits));
           new-block = a .block ∙ block-put q slot kind n block l slot-fits (ok .block-fits);
           others = added-others;
         }

@@ -158,7 +158,7 @@ unfolding slotsFit slotFits
 slots-fit no-more s e = refl
 slots-fit {q} {t} (stands {j = j} {js = js} i ek rest) s e =
     let ks : kindFits (u64At q (kindAt (slotOf s))) ≡ true = ap (λ (x : ℕ). kindFits (u64At q (kindAt x))) e ∙ ap kindFits (i .kind) ∙ i .request .kind-fits in
-    let ns : countFits (u64At q (countAt (slotOf s))) ≡ true = ap (λ (x : ℕ). countFits (u64At q (countAt x))) e ∙ ap countFits (i .n) ∙ i .request .count-fits in
+    let ns : countFits (u64At q (kindAt (slotOf s))) (u64At q (countAt (slotOf s))) ≡ true = rw (e, i .kind, i .n) (i .request .count-fits) in
     both _ _ (both _ _ ks ns) (slots-fit rest (s + 1) (slot-next s t e))
 
 first-under-way : (c : ℕ) (j : Held Bytes) (js : List (Held Bytes)) (q : Bytes) → RepQueue c (j ∷ js) q → 1 ≤ j .turns → UnderWay q

@@ -119,7 +119,7 @@ each-with σ b r t ht u v rv q h = go (eqb q t) refl
 pub record Submittable (queue kind n size held : ℕ) : Type 0 where
   pub queue-low : queue ≤ 3
   pub kind-fits : kindFits kind ≡ true
-  pub count-fits : countFits n ≡ true
+  pub count-fits : countFits kind n ≡ true
   pub size-fits : size ≡ 640
   pub room : held < 8
 
@@ -128,12 +128,12 @@ unfolding submitVerdict
 submit-accepted queue kind n size held e =
     let e₁ = check-next (leb queue 3) 1 _ e in
     let e₂ = check-next (kindFits kind) 2 _ e₁ in
-    let e₃ = check-next (countFits n) 3 _ e₂ in
+    let e₃ = check-next (countFits kind n) 3 _ e₂ in
     let e₄ = check-next (eqb size 640) 8 _ e₃ in
     record {
       queue-low = leb-true queue 3 (check-ok (leb queue 3) 1 _ e);
       kind-fits = check-ok (kindFits kind) 2 _ e₁;
-      count-fits = check-ok (countFits n) 3 _ e₂;
+      count-fits = check-ok (countFits kind n) 3 _ e₂;
       size-fits = eqb-true size 640 (check-ok (eqb size 640) 8 _ e₃);
       room = ltb-true held 8 (check-ok (ltb held 8) 4 _ e₄);
     }

@@ -44,11 +44,11 @@ latestAt = 104
 
 -- ---- in the eight slots; a job stands in the slot of its ticket modulo 8, so that no block is ever moved and no further number says where it is
 
--- 1 to 6 where a job is held
+-- 1 to 7 where a job is held
 abbrev pub kindAt : (slot : ℕ) → ℕ
 kindAt slot = 128 + 16 * slot
 
--- 1 to 8 where a job is held
+-- 1 to 8 where a job is held, 2 in kind 7
 abbrev pub countAt : (slot : ℕ) → ℕ
 countAt slot = 136 + 16 * slot
 

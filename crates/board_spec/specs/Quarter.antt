@@ -60,7 +60,7 @@ firstJob q = view (firstKind q) (u64At q (countAt (firstSlot q))) (part q (block
 -- ---- "6 .. a stored number outside its range"
 
 unfoldable pub slotFits : List ℕ → (slot : ℕ) → Bool
-slotFits q slot = kindFits (u64At q (kindAt slot)) && countFits (u64At q (countAt slot))
+slotFits q slot = kindFits (u64At q (kindAt slot)) && countFits (u64At q (kindAt slot)) (u64At q (countAt slot))
 
 -- the next jobs from this ticket on
 unfoldable pub slotsFit : List ℕ → (ticket count : ℕ) → Bool
