@@ -13,10 +13,11 @@ use Rattle.float.specs.Sign.{absOf}
 use Rattle.eos.specs.Indices.{foldFrom, total}
 use Rattle.block.specs.Numbers.{readsFractions}
 use Rattle.block.specs.Checks.{fractionSum, nearOne, sumFits}
+use Rattle.schedule.specs.Spans.{countFits}
 use Rattle.schedule.specs.Schedule.{Call, Submit, submitVerdict, verdict, put, entered, submitted, acts, judged, happens, events, fresh, mapCall}
 use Rattle.board_spec.specs.Run.{Bytes, fieldsOf, publicEvent}
 use Rattle.board_spec.proofs.Runs.{public-told}
-use Rattle.near_cases.specs.NearCases.{FloatCases, JetCases, SumCases, submits, answers, BoardCases, NearCases}
+use Rattle.near_cases.specs.NearCases.{FloatCases, JetCases, SumCases, submits, answers, BoardCases, SevenCases, NearCases}
 
 float-cases : FloatCases
 unfolding root floatRootOf sticky isqrt isqrtIn lnOf lnUnits lnAt reducedLn series horner oddRecip above ofBits ofInt neg size round add sub mul div le
@@ -67,7 +68,7 @@ told : (times kind n : ℕ) (block : Bytes) → length block ≡ 640 → answers
 told times kind n block e = public-told (submits times kind n block) ∙ ap (λ (fs : List (Call ℕ)). map publicEvent (events (λ m. m) fresh fs)) (fields times kind n block e)
 
 board-cases : BoardCases
-unfolding events fresh happens judged verdict submitVerdict acts submitted put entered publicEvent sized
+unfolding events fresh happens judged verdict submitVerdict countFits acts submitted put entered publicEvent sized
 board-cases = record {
   eighth-accepted = λ block e. told 8 1 1 block e;
   ninth-4 = λ block e. told 9 1 1 block e;
@@ -75,5 +76,15 @@ board-cases = record {
   n-9-refused-3 = λ block e. told 1 1 9 block e;
 }
 
+seven-cases : SevenCases
+unfolding events fresh happens judged verdict submitVerdict countFits acts submitted put entered publicEvent sized
+seven-cases = record {
+  n-2-accepted = λ block e. told 1 7 2 block e;
+  n-1-refused-3 = λ block e. told 1 7 1 block e;
+  n-3-refused-3 = λ block e. told 1 7 3 block e;
+  n-8-refused-3 = λ block e. told 1 7 8 block e;
+  kind-8-refused-2 = λ block e. told 1 8 2 block e;
+}
+
 pub near-cases : NearCases
-near-cases = record { floats = float-cases; jets = jet-cases; sums = sum-cases; board = board-cases }
+near-cases = record { floats = float-cases; jets = jet-cases; sums = sum-cases; board = board-cases; seven = seven-cases }

@@ -1,5 +1,5 @@
--- Document 01's near cases that are marked M, and those of document 02's sum of fractions, as one list: a record for each layer, and `NearCases` of all. They
--- speak of the definitions.
+-- Document 01's near cases that are marked M, and those of document 02's sum of fractions and kind 7, as one list: a record for each layer, and `NearCases` of
+-- all. They speak of the definitions.
 use Prim.Native.Nat.{ℕ, zero, suc, _-_}
 use mathlib.Core.Path.{_≡_}
 use mathlib.Core.Bool.{true, false}
@@ -88,9 +88,18 @@ pub record BoardCases : Type 0 where
   pub n-8-accepted : (block : Bytes) → length block ≡ 640 → answers (submits 1 1 8 block) ≡ ticketed 0 ∷ []
   pub n-9-refused-3 : (block : Bytes) → length block ≡ 640 → answers (submits 1 1 9 block) ≡ refusal 3 ∷ []
 
+-- "2 passes kind 7; 3 is also given for kind 7 with N other than 2." Whatever the block holds.
+pub record SevenCases : Type 0 where
+  pub n-2-accepted : (block : Bytes) → length block ≡ 640 → answers (submits 1 7 2 block) ≡ ticketed 0 ∷ []
+  pub n-1-refused-3 : (block : Bytes) → length block ≡ 640 → answers (submits 1 7 1 block) ≡ refusal 3 ∷ []
+  pub n-3-refused-3 : (block : Bytes) → length block ≡ 640 → answers (submits 1 7 3 block) ≡ refusal 3 ∷ []
+  pub n-8-refused-3 : (block : Bytes) → length block ≡ 640 → answers (submits 1 7 8 block) ≡ refusal 3 ∷ []
+  pub kind-8-refused-2 : (block : Bytes) → length block ≡ 640 → answers (submits 1 8 2 block) ≡ refusal 2 ∷ []
+
 -- A layer above adds its record here.
 pub record NearCases : Type 0 where
   pub floats : FloatCases
   pub jets : JetCases
   pub sums : SumCases
   pub board : BoardCases
+  pub seven : SevenCases
