@@ -11,10 +11,11 @@ fn slot_fits(q: &[u8], slot: usize) -> bool
     requires { ⌜ (length (now q) ≡ 6144) × (slot < 8) ⌝ }
     ensures { λ r. ⌜ r ≡ slotFits (now (q .entry)) slot ⌝ }
 {
-    if !schedule::kind_fits(buf::get_u64(q, 128 + 16 * slot)) {
+    let kind = buf::get_u64(q, 128 + 16 * slot);
+    if !schedule::kind_fits(kind) {
         return false;
     }
-    schedule::count_fits(buf::get_u64(q, 136 + 16 * slot))
+    schedule::count_fits(kind, buf::get_u64(q, 136 + 16 * slot))
 }
 
 // The slots of so many jobs from this ticket on, one after another.
