@@ -154,7 +154,7 @@ module _ (b : List ℕ) (queue kind n : ℕ) (block : List ℕ) where
       unfolding submittedOf submitVerdict
       submit-2 h = refuses Submitted.BadKind 2 refl (rw (f, le-leb _ _ hq, ← ek, not-true kf h))
 
-      module _ (hk : not kf ≡ false) (nf : Bool) (en : nf ≡ countFits n) where
+      module _ (hk : not kf ≡ false) (nf : Bool) (en : nf ≡ countFits kind n) where
         pub submit-3 : not nf ≡ true → Submits Submitted.BadCount b
         unfolding submittedOf submitVerdict
         submit-3 h = refuses Submitted.BadCount 3 refl (rw (f, le-leb _ _ hq, ← ek, not-false kf hk, ← en, not-true nf h))

@@ -18,7 +18,7 @@ pub fn submit(board: &mut [u8], queue: u64, kind: u64, n: u64, block: &[u8]) -> 
     if !schedule::kind_fits(kind) {
         return Submitted::BadKind;
     }
-    if !schedule::count_fits(n) {
+    if !schedule::count_fits(kind, n) {
         return Submitted::BadCount;
     }
     if block.len() != 640 {
