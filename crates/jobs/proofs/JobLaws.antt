@@ -35,7 +35,7 @@ unfolding verdictOf submitVerdict
 never-zero kind n block m e =
     check-number (leb 0 3) 1 m _ e (λ z. omega arith)
     (λ e₂. check-number (kindFits kind) 2 m _ e₂ (λ z. omega arith)
-    (λ e₃. check-number (countFits n) 3 m _ e₃ (λ z. omega arith)
+    (λ e₃. check-number (countFits kind n) 3 m _ e₃ (λ z. omega arith)
     (λ e₈. check-number (eqb (length block) 640) 8 m _ e₈ (λ z. omega arith)
     (λ e₄. check-number (ltb 0 8) 4 m accept e₄ (λ z. omega arith) (λ x. let z : _≡_ {A = ℕ} 0 1 = cc in absurd (omega arith))))))
 
