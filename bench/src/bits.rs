@@ -1,6 +1,6 @@
 //! Random evaluations of the linked library beside the oracle's, bit by bit, all NaNs being one value (document 01). Half of
 //! them are ordinary; in the other half numbers of the blend or state are odd. The digest tells two builds apart.
-use crate::blends::{Blend, Rows, ALONG, EVALUATIONS};
+use crate::blends::{Blend, Evaluation, Rows, EVALUATIONS};
 use oracle::random::{blend, Rng};
 use oracle::{float, vectors, PengRobinson};
 use std::process::ExitCode;
@@ -14,10 +14,11 @@ struct Case {
     density: f64,
 }
 
-/// A blend of real fluids with a temperature and a density up to its maximum; `alone`, up to that of the first component, which
-/// is there.
-fn ordinary(rng: &mut Rng, alone: bool) -> (Rows, [f64; 2]) {
+/// A blend of real fluids with a temperature and a density up to its maximum; for an evaluation of the first component alone, up to
+/// that of this component, which is there.
+fn ordinary(rng: &mut Rng, evaluation: &Evaluation) -> (Rows, [f64; 2]) {
     let n = 1 + rng.below(8);
+    let alone = (evaluation.of)(8) == 1 && (evaluation.of)(n) == 1;
     let blend = blend(rng, n);
     let eos = PengRobinson::new(&blend.coefficients, &blend.interactions);
     let max_density = eos.compute_max_density(if alone { &[1.0] } else { &blend.fractions });
@@ -91,9 +92,9 @@ fn fill_unread(n: usize, rows: &mut Rows) {
     }
 }
 
-fn case(rng: &mut Rng, alone: bool, is_odd: bool) -> Case {
-    let (mut rows, mut state) = ordinary(rng, alone);
-    let n = if alone { 1 } else { rows.n };
+fn case(rng: &mut Rng, evaluation: &Evaluation, is_odd: bool) -> Case {
+    let (mut rows, mut state) = ordinary(rng, evaluation);
+    let n = (evaluation.of)(rows.n);
     if is_odd {
         make_odd(rng, n, &mut rows, &mut state);
     }
@@ -157,7 +158,8 @@ pub fn run(count: u64, seed: u64) -> ExitCode {
     let mut different = 0;
     for i in 0..count {
         let (at, is_odd) = (i as usize % EVALUATIONS.len(), i / EVALUATIONS.len() as u64 % 2 == 1);
-        let (evaluation, case) = (&EVALUATIONS[at], case(&mut rng, at >= ALONG, is_odd));
+        let evaluation = &EVALUATIONS[at];
+        let case = case(&mut rng, evaluation, is_odd);
         let [ours, theirs] = [evaluation.ours, evaluation.theirs].map(|evaluate| evaluate(&case.blend, case.temperature, case.density));
         ours.iter().for_each(|&x| digest.add(float::bits(x)));
         let differs = ours.map(float::bits) != theirs.map(float::bits);

@@ -56,7 +56,7 @@ impl Rows {
 pub struct Blend {
     pub rows: Rows,
     pub eos: PengRobinson,
-    /// the first component alone, of which criticality and stability are
+    /// the first component alone, of which stability is, and criticality of any other number of components than two
     first: PengRobinson,
 }
 
@@ -91,15 +91,18 @@ macro_rules! ours {
 
 pub struct Evaluation {
     pub name: &'static str,
+    /// how many components of a blend of n it is of, with their fractions
+    pub of: fn(usize) -> usize,
     pub ours: Evaluate,
     pub theirs: Evaluate,
 }
 
-/// The first so many are along the density, of the whole blend; those after are of its first component, with its fraction.
+/// The first so many are along the density, of the whole blend.
 pub const ALONG: usize = 3;
 pub const EVALUATIONS: [Evaluation; 5] = [
     Evaluation {
         name: "p_dpdrho",
+        of: |n| n,
         ours: ours!(eos_p_dpdrho, 3),
         theirs: |blend, t, rho| {
             let (_, p, dp) = blend.eos.p_dpdrho(t, rho, blend.fractions());
@@ -108,11 +111,13 @@ pub const EVALUATIONS: [Evaluation; 5] = [
     },
     Evaluation {
         name: "p_dpdrho_d2pdrho2",
+        of: |n| n,
         ours: ours!(eos_p_dpdrho_d2pdrho2, 3),
         theirs: |blend, t, rho| six(blend.eos.p_dpdrho_d2pdrho2(t, rho, blend.fractions()).into()),
     },
     Evaluation {
         name: "_chemical_potential",
+        of: |n| n,
         ours: |blend, t, rho| {
             let Rows { n, tc, a, b, kappa, k, x } = &blend.rows;
             six([unsafe { eos_chemical_potential(*n, tc, a, b, kappa, k, x, t, rho) }])
@@ -121,14 +126,17 @@ pub const EVALUATIONS: [Evaluation; 5] = [
     },
     Evaluation {
         name: "criticality_conditions",
+        of: |n| if n == 2 { 2 } else { 1 },
         ours: ours!(eos_criticality_conditions, 6),
         theirs: |blend, t, rho| {
-            let (res, jac) = criticality(&blend.first, t, rho, &blend.rows.x[..1]);
+            let (eos, n) = if blend.rows.n == 2 { (&blend.eos, 2) } else { (&blend.first, 1) };
+            let (res, jac) = criticality(eos, t, rho, &blend.rows.x[..n]);
             [res[0], res[1], jac[0][0], jac[0][1], jac[1][0], jac[1][1]]
         },
     },
     Evaluation {
         name: "stability_condition",
+        of: |_| 1,
         ours: ours!(eos_stability_condition, 2),
         theirs: |blend, t, rho| {
             let (f, df) = stability(&blend.first, t, rho, &blend.rows.x[..1]);

@@ -161,9 +161,11 @@ pub fn rows() -> Vec<Row> {
             rows.push(row(evaluation.name, "four coefficients", &blend, evaluation.ours, on_four));
         }
     }
-    // of one component
+    // of one component, and criticality of two
     for evaluation in &EVALUATIONS[ALONG..] {
-        rows.push(row(evaluation.name, "the oracle's", &blend(1), evaluation.ours, evaluation.theirs));
+        for n in [1, 2].into_iter().filter(|&n| (evaluation.of)(n) == n) {
+            rows.push(row(evaluation.name, "the oracle's", &blend(n), evaluation.ours, evaluation.theirs));
+        }
     }
     rows
 }

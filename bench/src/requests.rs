@@ -1,4 +1,4 @@
-//! The requests that writes, jobs and turns are measured on: eight of each kind for N = 1, 2, 8, on one bottle.
+//! The requests that writes, jobs and turns are measured on: eight of each kind for N = 1, 2, 8 (kind 7: 2), on one bottle.
 use crate::proved;
 use oracle::random::FLUIDS;
 use oracle::writer::Filing;
@@ -73,6 +73,7 @@ pub fn filings(kind: u8, n: usize) -> Vec<Filing> {
         let t = bottle.tc * warmth;
         let p = BAR * [1.0, 2.0, 4.0, 6.0, 8.0, 10.0, 15.0, 20.0][i];
         let start = bottle.max_density * (0.1 + 0.1 * i as f64);
+        let near = bottle.max_density * (0.2 + 0.02 * i as f64);
         let component = i % n;
         let (choice, conditions) = match kind {
             // vapour, liquid, from a start
@@ -82,7 +83,9 @@ pub fn filings(kind: u8, n: usize) -> Vec<Filing> {
             4 => (i % 2, [t, 0.0, 0.0]),
             // from no temperature and from one near the answer
             5 => (component, [[0.0, 1.05 * bottle.records[component].tc][i % 2], 0.0, 0.0]),
-            _ => (component, [bottle.records[component].tc * warmth, 0.0, 0.0]),
+            6 => (component, [bottle.records[component].tc * warmth, 0.0, 0.0]),
+            // from none and from one near the answer, of the temperature and of the density
+            _ => (0, [[0.0, (1.0 + 0.01 * i as f64) * bottle.tc][i % 2], 0.0, [0.0, near][i / 4]]),
         };
         bottle.filing(kind, choice as u64, conditions)
     };
@@ -101,5 +104,5 @@ pub fn jobs(kind: u8, n: usize) -> Vec<Job> {
 
 /// Kind and N of each row.
 pub fn rows() -> impl Iterator<Item = (u8, usize)> {
-    (1..=6).flat_map(|kind| [1, 2, 8].map(|n| (kind, n)))
+    (1..=6).flat_map(|kind| [1, 2, 8].map(|n| (kind, n))).chain([(7, 2)])
 }

@@ -13,6 +13,22 @@ pub const BLOCK: usize = 640;
 /// Kind, N and a block.
 pub const REQUEST: usize = 2 + BLOCK;
 
+/// The kinds are 1 to 7.
+pub const KINDS: u64 = 7;
+
+/// Refusal 2 unless this holds.
+pub fn kind_fits(kind: u64) -> bool {
+    (1..=KINDS).contains(&kind)
+}
+
+/// Refusal 3 unless this holds: kind 7 is for two components, every other kind for 1 to 8.
+pub fn count_fits(kind: u64, n: u64) -> bool {
+    match kind {
+        7 => n == 2,
+        _ => (1..=8).contains(&n),
+    }
+}
+
 /// What a request is answered with.
 #[derive(Clone, Debug, PartialEq)]
 pub enum Answer {
@@ -133,7 +149,7 @@ fn finite_and_positive(x: f64) -> bool {
     x.is_finite() && x > 0.0
 }
 
-/// Bits of +0, which kind 5 reads as none.
+/// Bits of +0, which kinds 5 and 7 read as none.
 fn is_none(x: f64) -> bool {
     x.to_bits() == 0
 }
@@ -188,7 +204,7 @@ pub fn check(kind: u8, n: usize, block: &[u8; BLOCK]) -> Result<Job, u64> {
     }
 
     // 15: the conditions that the kind uses
-    let no_temperature = kind == 5 && is_none(parts.temperature);
+    let no_temperature = (kind == 5 || kind == 7) && is_none(parts.temperature);
     if !no_temperature && !finite_and_positive(parts.temperature) {
         return Err(15);
     }
@@ -196,7 +212,7 @@ pub fn check(kind: u8, n: usize, block: &[u8; BLOCK]) -> Result<Job, u64> {
     if uses_pressure && !parts.pressure.is_finite() {
         return Err(15);
     }
-    let uses_start = kind == 3 || kind == 5 || (kind == 1 && parts.choice == 2);
+    let uses_start = matches!(kind, 3 | 5 | 7) || (kind == 1 && parts.choice == 2);
     if uses_start && !parts.start.is_finite() {
         return Err(15);
     }
@@ -258,7 +274,7 @@ impl Job {
                 let (p, rho) = _pressure_spinodal_branch(eos, t, x, branch, evals)?;
                 Ok([p, rho, 0.0])
             }
-            5 => {
+            5 | 7 => {
                 let given = |x: f64| if is_none(x) { None } else { Some(x) };
                 let [t, rho] = critical_point(eos, x, given(t), given(self.start), evals)?;
                 Ok([t, rho, 0.0])
@@ -272,10 +288,10 @@ impl Job {
 }
 
 fn answer(kind: u8, n: u8, block: &[u8; BLOCK], evals: &mut Evaluations) -> Answer {
-    if !(1..=6).contains(&kind) {
+    if !kind_fits(kind.into()) {
         return Answer::Refused(2);
     }
-    if !(1..=8).contains(&n) {
+    if !count_fits(kind.into(), n.into()) {
         return Answer::Refused(3);
     }
     let (status, values) = match check(kind, usize::from(n), block) {

@@ -5,7 +5,7 @@
 //! six counters, three floats, evaluations and latest density of the running search, from 128 kind and N of each of eight
 //! slots, from 1,024 their blocks. A job stands in the slot of its ticket modulo 8.
 
-use crate::block::{check, Job, BLOCK};
+use crate::block::{check, count_fits, kind_fits, Job, BLOCK};
 use crate::float;
 use crate::stepping::{start, step, Stored};
 use std::ops::Range;
@@ -58,7 +58,7 @@ pub fn span(kind: u64) -> u64 {
         1 => 3101,
         2 => 6204,
         3 | 4 => 30,
-        5 => 150,
+        5 | 7 => 150,
         _ => 250,
     }
 }
@@ -146,7 +146,7 @@ fn quarter_fits(q: &[u8]) -> bool {
     for i in 0..held {
         let slot = slot(first_ticket(q).wrapping_add(i));
         let (kind, n) = (get(q, kind_at(slot)), get(q, count_at(slot)));
-        if !(1..=6).contains(&kind) || !(1..=8).contains(&n) {
+        if !kind_fits(kind) || !count_fits(kind, n) {
             return false;
         }
     }
@@ -205,10 +205,10 @@ pub fn submit(board: &mut [u8], queue: u64, kind: u64, n: u64, block: &[u8]) -> 
     if queue > 3 {
         return Answer::Refused(1);
     }
-    if !(1..=6).contains(&kind) {
+    if !kind_fits(kind) {
         return Answer::Refused(2);
     }
-    if !(1..=8).contains(&n) {
+    if !count_fits(kind, n) {
         return Answer::Refused(3);
     }
     if block.len() != BLOCK {

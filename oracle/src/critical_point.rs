@@ -1,5 +1,5 @@
-//! Critical points and stability spinodals of one component with fraction 1. After feos `state/critical_point.rs`.
-//! Mark e0 is on the mole number or s, e1 on temperature, e2 on density.
+//! Critical points of one component with fraction 1 or of a blend of two, stability spinodals of one component. After feos
+//! `state/critical_point.rs`. Mark e0 is on the mole numbers or s, e1 on temperature, e2 on density.
 
 use crate::cubic::PengRobinson;
 use crate::evaluations::{finite, Evaluations, FeosError, FeosResult};
@@ -135,7 +135,8 @@ fn calculate_spinodal(
     Err(FeosError::SuperCritical)
 }
 
-/// Both criticality conditions with their derivatives by temperature and density, the Rust's `jacobian`.
+/// Both criticality conditions of one component or two, with their derivatives by temperature and density, the Rust's
+/// `jacobian`.
 pub fn criticality(
     eos: &PengRobinson,
     temperature: f64,
@@ -175,27 +176,30 @@ fn criticality_conditions(
 ) -> [Jet; 2] {
     // calculate M
     let molar_volume = density.recip();
-    let sqrt_z = molefracs[0].sqrt();
-    let z_mix = sqrt_z * sqrt_z;
-    let m = dmu_dn(eos, temperature, molar_volume, molefracs);
-    let m = m * z_mix + Jet::one();
+    let sqrt_z: Vec<Jet> = molefracs.iter().map(|z| z.sqrt()).collect();
+    let m = matrix(eos, temperature, molar_volume, molefracs, &sqrt_z);
 
     // calculate smallest eigenvalue and corresponding eigenvector
-    let (l, u) = smallest_ev(m);
+    let (l, u) = smallest_ev(&m);
 
     let s = Jet::e0(0.0);
-    let n = molefracs[0] + (sqrt_z * u) * s;
+    let n: Vec<Jet> = (0..molefracs.len())
+        .map(|i| molefracs[i] + (sqrt_z[i] * u[i]) * s)
+        .collect();
     let t = temperature;
     let v = molar_volume;
-    let ig = jet::dot(
-        &[n],
-        &[if n.is_zero() {
-            Jet::zero()
-        } else {
-            (n / v).ln() - 1.0
-        }],
-    );
-    let a = eos.residual_helmholtz_energy(t, v, &[n]) / t + ig;
+    let ln_n: Vec<Jet> = n
+        .iter()
+        .map(|&n| {
+            if n.is_zero() {
+                Jet::zero()
+            } else {
+                (n / v).ln() - 1.0
+            }
+        })
+        .collect();
+    let ig = jet::dot(&n, &ln_n);
+    let a = eos.residual_helmholtz_energy(t, v, &n) / t + ig;
     let c2 = a.derivative(3);
 
     [l, c2]
@@ -209,25 +213,78 @@ fn stability_condition(
 ) -> Jet {
     // calculate M
     let molar_volume = density.recip();
-    let sqrt_z = molefracs[0].sqrt();
-    let z_mix = sqrt_z * sqrt_z;
-    let m = dmu_dn(eos, temperature, molar_volume, molefracs);
-    let m = m * z_mix + Jet::one();
+    let sqrt_z: Vec<Jet> = molefracs.iter().map(|z| z.sqrt()).collect();
+    let m = matrix(eos, temperature, molar_volume, molefracs, &sqrt_z);
 
     // calculate smallest eigenvalue and corresponding eigenvector
-    let (l, _) = smallest_ev(m);
+    let (l, _) = smallest_ev(&m);
 
     l
 }
 
-/// The 1 by 1 matrix of second derivatives by the mole number.
-fn dmu_dn(eos: &PengRobinson, temperature: Jet, molar_volume: Jet, molefracs: &[Jet]) -> Jet {
-    let n = molefracs[0].plus_e0();
-    let a = eos.residual_helmholtz_energy(temperature, molar_volume, &[n]) / temperature;
-    a.derivative(2)
+/// A matrix of 1 by 1 or 2 by 2 jets, by rows.
+pub type Matrix = Vec<Vec<Jet>>;
+
+/// M: `dmu_dn` times the roots of both fractions, entry by entry, plus the identity, whose zeros are added too.
+pub fn matrix(
+    eos: &PengRobinson,
+    temperature: Jet,
+    molar_volume: Jet,
+    molefracs: &[Jet],
+    sqrt_z: &[Jet],
+) -> Matrix {
+    let identity = |i, j| if i == j { Jet::one() } else { Jet::zero() };
+    let mut m = dmu_dn(eos, temperature, molar_volume, molefracs);
+    for (i, row) in m.iter_mut().enumerate() {
+        for (j, entry) in row.iter_mut().enumerate() {
+            let z_mix = sqrt_z[i] * sqrt_z[j];
+            *entry = *entry * z_mix + identity(i, j);
+        }
+    }
+    m
 }
 
-/// Of one component: the entry itself and the vector 1.
-fn smallest_ev(m: Jet) -> (Jet, Jet) {
-    (m, Jet::one())
+/// The second derivatives by the mole numbers. The mixed one is half of that in direction (1,1) less the other two.
+fn dmu_dn(eos: &PengRobinson, temperature: Jet, molar_volume: Jet, molefracs: &[Jet]) -> Matrix {
+    // e0 is on the mole numbers that the direction names
+    let along = |direction: &[usize]| {
+        let mut n = molefracs.to_vec();
+        for &i in direction {
+            n[i] = n[i].plus_e0();
+        }
+        let a = eos.residual_helmholtz_energy(temperature, molar_volume, &n) / temperature;
+        a.derivative(2)
+    };
+    match molefracs.len() {
+        1 => vec![vec![along(&[0])]],
+        2 => {
+            let (h11, h22, h) = (along(&[0]), along(&[1]), along(&[0, 1]));
+            let h12 = ((h - h11) - h22) * 0.5;
+            vec![vec![h11, h12], vec![h12, h22]]
+        }
+        n => panic!("{n} components"),
+    }
+}
+
+/// The smallest eigenvalue and its vector: of one component the entry itself and 1, of two by document 02.
+fn smallest_ev(m: &Matrix) -> (Jet, Vec<Jet>) {
+    if m.len() == 1 {
+        return (m[0][0], vec![Jet::one()]);
+    }
+    let (m11, m12, m22) = (m[0][0], m[0][1], m[1][1]);
+    let d = m11 - m22;
+    let root = (d * d + (Jet::from(4.0) * m12) * m12).sqrt();
+    let l = ((m11 + m22) - root) * 0.5;
+    let u = if m12.is_zero() {
+        if m11.re() <= m22.re() {
+            vec![Jet::one(), Jet::zero()]
+        } else {
+            vec![Jet::zero(), Jet::one()]
+        }
+    } else {
+        let u = [m12, l - m11];
+        let length = (u[0] * u[0] + u[1] * u[1]).sqrt();
+        u.map(|x| x / length).to_vec()
+    };
+    (l, u)
 }

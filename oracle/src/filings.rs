@@ -1,7 +1,7 @@
 //! Random filings for the writer, each with a buffer: numbers of requests that the reader accepts, anything where the kind
 //! reads nothing, and faults for every refusal, alone and several at once.
 
-use crate::block::{check, BLOCK};
+use crate::block::{check, count_fits, kind_fits, BLOCK, KINDS};
 use crate::cubic::PengRobinsonRecord;
 use crate::generate::{damage, request, Draft, Scale};
 use crate::random::{Blend, Rng};
@@ -39,8 +39,11 @@ fn readable(rng: &mut Rng) -> Filing {
     loop {
         let request = request(rng);
         let (kind, n) = (request[0], request[1]);
-        // most requests have few components
-        if !(1..=6).contains(&kind) || !(1..=8).contains(&n) || (n < 4 && !rng.once_in(3)) {
+        if !kind_fits(kind.into()) || !count_fits(kind.into(), n.into()) {
+            continue;
+        }
+        // most requests have few components, those of kind 7 all
+        if n < 4 && !rng.once_in(if kind == 7 { 2 } else { 3 }) {
             continue;
         }
         let block: &[u8; BLOCK] = request[2..].try_into().expect("640 bytes");
@@ -68,7 +71,7 @@ fn make_odd(rng: &mut Rng, filing: &mut Filing) {
 /// Fills what the kind does not read.
 fn fill_unread(rng: &mut Rng, filing: &mut Filing) {
     let (kind, choice) = (filing.kind, filing.choice);
-    if kind == 2 || kind == 3 {
+    if kind == 2 || kind == 3 || kind == 7 {
         filing.choice = rng.bits();
     }
     if kind > 2 {
@@ -77,7 +80,7 @@ fn fill_unread(rng: &mut Rng, filing: &mut Filing) {
     if kind == 2 || kind == 4 || kind == 6 || (kind == 1 && choice != 2) {
         filing.start = anything(rng);
     }
-    if kind > 4 {
+    if kind == 5 || kind == 6 {
         filing.fractions.fill_with(|| anything(rng));
     }
 }
@@ -252,9 +255,15 @@ pub fn filing(rng: &mut Rng) -> (Filing, Vec<u8>) {
     let mut length = BLOCK;
     for refusal in places.into_iter().map(|place| REFUSALS[place]) {
         match refusal {
-            2 => filing.kind = outside(rng, filing.kind, 6),
+            2 => filing.kind = outside(rng, filing.kind, KINDS),
+            // kind 7 with the numbers of another
+            3 if filing.n != 2 && rng.once_in(8) => filing.kind = 7,
             3 => {
-                filing.n = outside(rng, filing.n, 8);
+                filing.n = if filing.kind == 7 && rng.once_in(2) {
+                    rng.pick(&[1, 3, 4, 5, 6, 7, 8])
+                } else {
+                    outside(rng, filing.n, 8)
+                };
                 if filing.n < 10 && rng.once_in(2) {
                     let n = filing.n as usize;
                     refit(rng, &mut filing, n);
@@ -290,7 +299,11 @@ pub struct FilingCensus {
 
 impl FilingCensus {
     pub fn count(&mut self, filing: &Filing, buffer: &mut [u8]) {
-        let kind = if filing.kind <= 6 { filing.kind } else { 0 };
+        let kind = if kind_fits(filing.kind) {
+            filing.kind
+        } else {
+            0
+        };
         let answer = write_block(filing, buffer);
         *self.answers.entry((kind, answer)).or_default() += 1;
         if answer == 0 {
@@ -307,7 +320,7 @@ impl std::fmt::Display for FilingCensus {
         for answer in &answers {
             write!(f, "{answer:7}")?;
         }
-        for kind in [1, 2, 3, 4, 5, 6, 0] {
+        for kind in (1..=KINDS).chain([0]) {
             match kind {
                 0 => write!(f, "\nother kind")?,
                 _ => write!(f, "\nkind {kind}    ")?,
@@ -318,13 +331,17 @@ impl std::fmt::Display for FilingCensus {
         }
         write!(f, "\nall       ")?;
         for &answer in &answers {
-            write!(f, "{:7}", (0..=6).map(|kind| of(kind, answer)).sum::<u64>())?;
+            write!(
+                f,
+                "{:7}",
+                (0..=KINDS).map(|kind| of(kind, answer)).sum::<u64>()
+            )?;
         }
         write!(f, "\n\nwritten, N")?;
         for n in 1..=8 {
             write!(f, "{n:7}")?;
         }
-        for kind in 1..=6 {
+        for kind in 1..=KINDS {
             write!(f, "\nkind {kind}    ")?;
             for n in 1..=8 {
                 let written = self.written.get(&(kind, n)).copied().unwrap_or(0);

@@ -1,10 +1,13 @@
 //! Random requests from a seed: real blends in ordinary and odd states, damaged blocks, and extremes of the range.
 
-use crate::block::{adds_up, lengths, sum_of, BLOCK, REQUEST};
+use crate::block::{adds_up, lengths, sum_of, BLOCK, KINDS, REQUEST};
+use crate::critical_point::matrix;
 use crate::cubic::PengRobinson;
 use crate::density_iteration::{_pressure_spinodal, _pressure_spinodal_branch};
 use crate::evaluations::Evaluations;
-use crate::random::{blend, Blend, Rng};
+use crate::jet::Jet;
+use crate::random::{blend, blend_of_two, make_alike, Blend, Rng};
+use crate::residual::plain;
 use crate::state::DensityInitialization::{Liquid, Vapor};
 
 /// One Pascal in K per cubic angstrom.
@@ -70,7 +73,7 @@ impl Scale {
 impl Draft {
     fn seen(&self) -> Seen {
         let eos = PengRobinson::new(&self.blend.coefficients, &self.blend.interactions);
-        let (eos, x) = if self.kind >= 5 {
+        let (eos, x) = if self.is_pure() {
             (eos.subset(self.choice as usize % self.n), vec![1.0])
         } else {
             (eos, self.blend.fractions.clone())
@@ -86,12 +89,17 @@ impl Draft {
         }
     }
 
+    /// Of one component; the fractions are not read.
+    fn is_pure(&self) -> bool {
+        self.kind == 5 || self.kind == 6
+    }
+
     fn uses_pressure(&self) -> bool {
         self.kind == 1 || self.kind == 2
     }
 
     fn uses_start(&self) -> bool {
-        self.kind == 3 || self.kind == 5 || (self.kind == 1 && self.choice == 2)
+        matches!(self.kind, 3 | 5 | 7) || (self.kind == 1 && self.choice == 2)
     }
 
     fn uses_choice(&self) -> bool {
@@ -211,16 +219,25 @@ fn at_limit_by_order(rng: &mut Rng, fractions: &mut [f64]) {
 
 /// A blend in a state that the equation of state is made for, or in an odd one.
 fn ordinary(rng: &mut Rng) -> Draft {
+    let kind = 1 + rng.below(KINDS as usize) as u8;
+    ordinary_of(rng, kind)
+}
+
+fn ordinary_of(rng: &mut Rng, kind: u8) -> Draft {
     let n = match rng.below(3) {
+        _ if kind == 7 => 2,
         0 => 1,
         1 => 1 + rng.below(3),
         _ => 1 + rng.below(8),
     };
-    let kind = 1 + rng.below(6) as u8;
     let mut draft = Draft {
         kind,
         n,
-        blend: blend(rng, n),
+        blend: if kind == 7 {
+            blend_of_two(rng)
+        } else {
+            blend(rng, n)
+        },
         choice: 0,
         temperature: 0.0,
         pressure: 0.0,
@@ -245,7 +262,7 @@ fn ordinary(rng: &mut Rng) -> Draft {
     draft.temperature = temperature(rng, &seen);
     draft.pressure = pressure(rng, &seen, draft.temperature);
     draft.start = start(rng, &seen, draft.temperature);
-    if kind == 5 {
+    if kind == 5 || kind == 7 {
         if rng.once_in(2) {
             draft.temperature = 0.0;
         }
@@ -253,6 +270,68 @@ fn ordinary(rng: &mut Rng) -> Draft {
             draft.start = 0.0;
         }
     }
+    draft
+}
+
+/// Temperature and density at which the mixed entry of the matrix of two components is exactly 0, where they are found among
+/// this temperature and the floats after it, as many as told.
+pub(crate) fn uncoupled_state(
+    eos: &PengRobinson,
+    x: &[f64],
+    t: f64,
+    temperatures: usize,
+) -> Option<(f64, f64)> {
+    let max_density = eos.compute_max_density(x);
+    let x = plain(x);
+    let sqrt_z: Vec<Jet> = x.iter().map(|x| x.sqrt()).collect();
+    let mixed = |t: f64, rho: f64| {
+        matrix(eos, Jet::from(t), Jet::from(rho).recip(), &x, &sqrt_z)[0][1].re()
+    };
+    // attraction prevails at the lower density, repulsion near the packing limit 1/b
+    let [mut low, mut high] = [1e-3, 1.1].map(|part| part * max_density);
+    if !(mixed(t, low) < 0.0 && mixed(t, high) > 0.0) {
+        return None;
+    }
+    for t in (t.to_bits()..).take(temperatures).map(f64::from_bits) {
+        while low.next_up() < high {
+            let middle = f64::from_bits(low.to_bits().midpoint(high.to_bits()));
+            if mixed(t, middle) < 0.0 {
+                low = middle;
+            } else {
+                high = middle;
+            }
+        }
+        // rounding alone decides here
+        let near = high.to_bits();
+        let mut around = (near - 8..near + 8).map(f64::from_bits);
+        if let Some(rho) = around.find(|&rho| mixed(t, rho) == 0.0) {
+            return Some((t, rho));
+        }
+        [low, high] = [near - 100, near + 100].map(f64::from_bits);
+    }
+    None
+}
+
+/// A critical point whose first evaluation finds the mixed entry exactly 0.
+fn uncoupled(rng: &mut Rng) -> Draft {
+    let mut draft = ordinary_of(rng, 7);
+    let seen = draft.seen();
+    // the first trial's temperature or a given one
+    let (given, t, temperatures) = match rng.below(4) {
+        0 => (false, 300.0, 1),
+        _ => (true, seen.tc * rng.between(0.5, 1.5), 20),
+    };
+    if let Some((t, rho)) = uncoupled_state(&seen.eos, &seen.x, t, temperatures) {
+        draft.temperature = if given { t } else { 0.0 };
+        draft.start = rho;
+    }
+    draft
+}
+
+/// A critical point of two components with the same coefficients.
+fn alike(rng: &mut Rng) -> Draft {
+    let mut draft = ordinary_of(rng, 7);
+    make_alike(rng, &mut draft.blend);
     draft
 }
 
@@ -380,11 +459,11 @@ fn hot(rng: &mut Rng) -> Draft {
     }
     if rng.once_in(2) {
         // or that the derivatives by temperature are rounding errors and the step overflows
-        draft.kind = 5;
+        draft.kind = if draft.n == 2 && rng.once_in(2) { 7 } else { 5 };
         draft.choice = rng.below(draft.n) as u64;
         draft.temperature = rng.log_between(1e280, 1e306);
         draft.start = 0.0;
-        if rng.once_in(8) {
+        if draft.kind == 5 && rng.once_in(8) {
             // here the second pivot of the critical step is 0 and the first is not
             let i = draft.choice as usize;
             let record = &mut draft.blend.coefficients[i];
@@ -468,7 +547,7 @@ pub fn damage(rng: &mut Rng, draft: &mut Draft, refusal: u8) {
             let far = rng.bits();
             draft.choice = rng.pick(&[limit, limit + 1, 1 << 32, 1 << 63, u64::MAX, far]);
         }
-        16 if draft.kind < 5 && rng.once_in(2) => too_large(rng, &mut draft.blend),
+        16 if !draft.is_pure() && rng.once_in(2) => too_large(rng, &mut draft.blend),
         16 => too_small(rng, &mut draft.blend),
         17 => spoil_sum(rng, &mut draft.blend.fractions),
         _ => {}
@@ -521,12 +600,16 @@ fn fill_unused(rng: &mut Rng, draft: &mut Draft) {
         draft.choice = rng.bits();
     }
     if !draft.uses_pressure() && rng.once_in(2) {
-        draft.pressure = f64::from_bits(rng.bits());
+        draft.pressure = if rng.once_in(2) {
+            rng.special()
+        } else {
+            f64::from_bits(rng.bits())
+        };
     }
     if !draft.uses_start() && rng.once_in(2) {
         draft.start = rng.pick(&[f64::NAN, f64::INFINITY, -1.0, 0.0]);
     }
-    if draft.kind >= 5 && rng.once_in(3) {
+    if draft.is_pure() && rng.once_in(3) {
         for x in &mut draft.blend.fractions {
             *x = f64::from_bits(rng.bits());
         }
@@ -618,6 +701,8 @@ pub fn request(rng: &mut Rng) -> [u8; REQUEST] {
         28 => hot(rng),
         29 => flat(rng),
         30 => faint(rng),
+        31 => uncoupled(rng),
+        32 => alike(rng),
         _ => ordinary(rng),
     };
     fill_unused(rng, &mut draft);
@@ -637,10 +722,13 @@ pub fn request(rng: &mut Rng) -> [u8; REQUEST] {
         damage_pairs(rng, &mut request);
     }
     if theme == 99 {
-        match rng.below(4) {
-            0 => request[0] = rng.pick(&[0, 7, 8, 9, 255]),
+        match rng.below(6) {
+            0 => request[0] = rng.pick(&[0, 8, 9, 10, 255]),
             1 => request[1] = rng.pick(&[0, 9, 10, 255]),
-            2 => (request[0], request[1]) = (rng.pick(&[0, 7]), rng.pick(&[0, 9])),
+            2 => (request[0], request[1]) = (rng.pick(&[0, 8]), rng.pick(&[0, 9])),
+            // kind 7 with the block and N of another kind, or with another N
+            3 => request[0] = 7,
+            4 => (request[0], request[1]) = (7, rng.pick(&[0, 1, 3, 4, 8, 9, 255])),
             // another N than the block was made for
             _ => request[1] = 1 + rng.below(8) as u8,
         }

@@ -5,7 +5,8 @@ use oracle::float::bits;
 use oracle::generate::requests;
 use oracle::show::{select, show, Census};
 use oracle::vectors::{
-    eval_cases, eval_record, jet_cases, jet_operation, words, EvalCase, JetCase, JET_RECORD,
+    eval_cases, eval_fits, eval_record, jet_cases, jet_operation, words, EvalCase, JetCase,
+    JET_RECORD,
 };
 use oracle::{run_request, trace_request, BLOCK, REQUEST};
 use std::io::{self, BufWriter, Read, Write};
@@ -121,8 +122,10 @@ fn evals_run(input: &mut impl Read, out: &mut impl Write) -> io::Result<()> {
             return Ok(());
         }
         let n = usize::from(record[1]);
-        if head < 2 || !(1..=5).contains(&record[0]) || !(1..=8).contains(&n) {
-            return Err(invalid("no evaluation byte 1 to 5 and N 1 to 8"));
+        if head < 2 || !eval_fits(record[0], n) {
+            return Err(invalid(
+                "no evaluation byte 1 to 5 and N 1 to 8, or 6 and 2",
+            ));
         }
         let rest = &mut record[2..eval_record(n)];
         if read_full(input, rest)? < rest.len() {

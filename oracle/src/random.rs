@@ -173,3 +173,59 @@ pub fn blend(rng: &mut Rng, n: usize) -> Blend {
         fractions,
     }
 }
+
+/// Two fluids for the critical point of their blend: often as handbooks give them, some alike. Fractions as suppliers file
+/// them, halves, traces down to 1e-12, or one missing.
+pub fn blend_of_two(rng: &mut Rng) -> Blend {
+    let mut blend = blend(rng, 2);
+    if rng.once_in(2) {
+        for record in &mut blend.coefficients {
+            let (_, tc, pc, acentric_factor) = rng.pick(&FLUIDS);
+            *record = PengRobinsonRecord {
+                tc,
+                pc,
+                acentric_factor,
+            };
+        }
+    }
+    if rng.once_in(6) {
+        blend.interactions[0] = rng.between(-0.5, 1.0);
+    }
+    match rng.below(8) {
+        0..=2 => {
+            let percent = 1 + rng.below(99);
+            blend.fractions = vec![percent as f64 / 100.0, (100 - percent) as f64 / 100.0];
+        }
+        3 => blend.fractions = vec![0.5, 0.5],
+        4 | 5 => {
+            let trace = if rng.once_in(3) {
+                rng.pick(&[1e-3, 1e-6, 1e-9, 1e-12])
+            } else {
+                rng.log_between(1e-12, 0.5)
+            };
+            blend.fractions = vec![trace, 1.0 - trace];
+        }
+        _ => {}
+    }
+    if rng.once_in(24) {
+        blend.fractions = vec![0.0, 1.0];
+    }
+    if rng.once_in(2) {
+        blend.fractions.reverse();
+    }
+    if rng.once_in(12) {
+        make_alike(rng, &mut blend);
+    }
+    blend
+}
+
+/// Gives both components of a blend of two the same coefficients; mostly no interaction, often halves.
+pub fn make_alike(rng: &mut Rng, blend: &mut Blend) {
+    blend.coefficients[1] = blend.coefficients[0];
+    if !rng.once_in(4) {
+        blend.interactions[0] = 0.0;
+    }
+    if rng.once_in(2) {
+        blend.fractions = vec![0.5, 0.5];
+    }
+}

@@ -1,6 +1,8 @@
 //! A request in readable form, and counts of answers by kind and status.
 
-use crate::block::{lengths, pairs, read_parts, run_request, Answer, BLOCK, REQUEST};
+use crate::block::{
+    count_fits, lengths, pairs, read_parts, run_request, Answer, BLOCK, KINDS, REQUEST,
+};
 use crate::float::bits;
 use crate::generate::requests;
 use std::collections::BTreeMap;
@@ -10,13 +12,13 @@ fn float(x: f64) -> String {
     format!("{x:e} ({:016X})", bits(x))
 }
 
-/// The request's kind, N, pairs and numbers, a line each.
+/// The request's kind, N, pairs and numbers, a line each; without the numbers where N does not fit the kind.
 pub fn show(request: &[u8; REQUEST]) -> String {
     let (kind, n) = (request[0], request[1]);
     let block: &[u8; BLOCK] = request[2..].try_into().expect("640 bytes");
     let mut text = format!("kind {kind}, N {n}\n");
     let _ = writeln!(text, "pairs (offset, length) {:?}", pairs(block));
-    if !(1..=8).contains(&n) {
+    if !count_fits(kind.into(), n.into()) {
         return text;
     }
     let n = usize::from(n);
@@ -118,8 +120,11 @@ impl std::fmt::Display for Census {
         for ((kind, status), (count, most, place)) in &self.sealed {
             writeln!(f, "{kind:4} {status:6} {count:8} {most:16} {place:10}")?;
         }
-        for kind in 1..=6 {
-            let of_kind = self.sealed.iter().filter(|((k, _), _)| *k == kind);
+        for kind in 1..=KINDS {
+            let of_kind = self
+                .sealed
+                .iter()
+                .filter(|((k, _), _)| u64::from(*k) == kind);
             if let Some((_, (_, most, place))) = of_kind.max_by_key(|(_, (_, most, _))| *most) {
                 writeln!(
                     f,

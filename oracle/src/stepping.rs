@@ -5,7 +5,7 @@
 //! | 1 | tag 0 the end, 1 the first round, 2 a round, 3 the curvature, 4 the nearest spinodal, 5 the liquid's, else the vapour's | `left` rounds of the search after this one, `way` the detour, `rounds` of the spinodal after this one |
 //! | 2 | stage 0 the end, 1 the liquid's search, 2 the vapour's, 3 the liquid's potential, else the vapour's | the search's as in kind 1, whose tag 0 is its last place here; stage 2: the liquid's end in `status` and the third float |
 //! | 3, 4 | tag 0 the end, else a round | `rounds` after this one |
-//! | 5 | tag 0 the end, 1 a round from a given temperature, else of the trial `way` | `rounds` after this one |
+//! | 5, 7 | tag 0 the end, 1 a round from a given temperature, else of the trial `way` | `rounds` after this one |
 //! | 6 | stage 0 the end, 1 the critical point, whose tag 0 is a trial's, 2 the vapour's spinodal, else the liquid's | as in kind 5 |
 
 use crate::block::Job;
@@ -793,7 +793,7 @@ impl<'a> Step<'a> {
         }
     }
 
-    // ---- kind 5
+    // ---- kinds 5 and 7
 
     fn hkm_at(&mut self, t: f64, rho: f64) -> FeosResult<(bool, f64, f64)> {
         let (eos, x) = (&self.job.eos, &self.job.molefracs);
@@ -855,7 +855,7 @@ impl<'a> Step<'a> {
         0.3 * self.max_density
     }
 
-    /// Kind 5's starting density.
+    /// The starting density of kinds 5 and 7.
     fn given_start(&self) -> f64 {
         if self.job.start.to_bits() == 0 {
             self.usual_start()
@@ -972,7 +972,7 @@ pub fn start(job: &Result<Job, u64>) -> Stored {
             .written(),
         3 => spinodal_written(step.spinodal_begins(job.start)),
         4 => spinodal_written(step.branch_begins(branch_of(job))),
-        5 => {
+        5 | 7 => {
             let rho = step.given_start();
             let place = if job.temperature.to_bits() == 0 {
                 trial_begins(0, rho)
@@ -1014,7 +1014,7 @@ pub fn step(job: &Result<Job, u64>, stored: &Stored) -> Stored {
         2 => step.stable_steps(Stable::read(stored)).written(),
         3 => spinodal_written(step.spinodal_steps(rounds, rho)),
         4 => spinodal_written(step.branch_steps(branch_of(job), rounds, rho)),
-        5 => {
+        5 | 7 => {
             let start = step.given_start();
             step.critical_steps(start, Critical::read(stored)).written()
         }

@@ -4,8 +4,9 @@ use crate::critical_point::{criticality, stability};
 use crate::cubic::{PengRobinson, PengRobinsonRecord};
 use crate::density_iteration::_chemical_potential;
 use crate::float;
+use crate::generate::uncoupled_state;
 use crate::jet::{Jet, SIZE};
-use crate::random::{blend, Blend, Rng};
+use crate::random::{blend, blend_of_two, make_alike, Blend, Rng};
 
 /// The operations on jets; the place is the operation's byte. `true`: takes two jets.
 pub const OPERATIONS: [(&str, bool); 12] = [
@@ -158,7 +159,8 @@ fn float_at(bytes: &[u8], at: usize) -> f64 {
 }
 
 /// One evaluation to be made: 1 `p_dpdrho`, 2 `p_dpdrho_d2pdrho2`, 3 `_chemical_potential`,
-/// 4 `criticality_conditions` and 5 `stability_condition` with derivatives, of component 0 with fraction 1.
+/// 4 `criticality_conditions` and 5 `stability_condition` with derivatives, of component 0 with fraction 1,
+/// 6 `criticality_conditions` of two components with derivatives.
 #[derive(Clone, Debug)]
 pub struct EvalCase {
     pub evaluation: u8,
@@ -172,15 +174,53 @@ pub fn eval_record(n: usize) -> usize {
     2 + 24 * n + 4 * n * (n - 1) + 8 * n + 16
 }
 
+/// The evaluation bytes are 1 to 6.
+const EVALUATIONS: u8 = 6;
+
+/// Whether an evaluation can be made of n components: 6 of two, the others of 1 to 8.
+pub fn eval_fits(evaluation: u8, n: usize) -> bool {
+    match evaluation {
+        6 => n == 2,
+        _ => (1..EVALUATIONS).contains(&evaluation) && (1..=8).contains(&n),
+    }
+}
+
+/// Two components as requests have them, and as none has them: smaller traces, fractions that do not add up, and without
+/// attraction between unlike components.
+fn any_two(rng: &mut Rng) -> Blend {
+    let mut blend = blend_of_two(rng);
+    let i = rng.below(2);
+    match rng.below(12) {
+        0 => {
+            let trace = rng.pick(&[1e-3, 1e-9, 1e-16, 1e-100, 1e-300, 5e-324]);
+            blend.fractions[i] = trace;
+            blend.fractions[1 - i] = 1.0 - trace;
+        }
+        1 => blend.fractions[i] = 0.0,
+        2 => blend.fractions.fill_with(|| rng.log_between(1e-3, 100.0)),
+        3 => {
+            make_alike(rng, &mut blend);
+            (blend.interactions[0], blend.fractions) = (0.0, vec![0.5, 0.5]);
+        }
+        4 => blend.interactions[0] = 1.0,
+        _ => {}
+    }
+    blend
+}
+
 /// The evaluations in turn, on ordinary, near-critical and extreme states of 1, 2, 3 and 8 components.
 pub fn eval_cases(seed: u64, count: usize) -> impl Iterator<Item = EvalCase> {
     let mut rng = Rng::new(seed);
     (0..count).map(move |i| {
-        let evaluation = (i % 5) as u8 + 1;
-        let n = rng.pick(&[1, 1, 2, 3, 8]);
-        let mut blend = blend(&mut rng, n);
+        let evaluation = (i % usize::from(EVALUATIONS)) as u8 + 1;
+        let (n, mut blend) = if evaluation == 6 {
+            (2, any_two(&mut rng))
+        } else {
+            let n = rng.pick(&[1, 1, 2, 3, 8]);
+            (n, blend(&mut rng, n))
+        };
         let of = |blend: &Blend| {
-            if evaluation > 3 {
+            if evaluation == 4 || evaluation == 5 {
                 let eos = PengRobinson::new(&blend.coefficients[..1], &[]);
                 (eos.compute_max_density(&[1.0]), blend.coefficients[0].tc)
             } else {
@@ -206,6 +246,13 @@ pub fn eval_cases(seed: u64, count: usize) -> impl Iterator<Item = EvalCase> {
                 max_density * rng.between(0.001, 1.1),
             ),
         };
+        if evaluation == 6 && rng.once_in(12) {
+            // the mixed entry of the matrix is exactly 0
+            let eos = PengRobinson::new(&blend.coefficients, &blend.interactions);
+            let near = tc * rng.between(0.5, 1.5);
+            let found = uncoupled_state(&eos, &blend.fractions, near, 40);
+            (temperature, density) = found.unwrap_or((temperature, density));
+        }
         // extreme states
         match rng.below(36) {
             0 => temperature = rng.special(),
@@ -300,6 +347,9 @@ impl EvalCase {
     pub fn run(&self) -> Vec<f64> {
         let eos = PengRobinson::new(&self.blend.coefficients, &self.blend.interactions);
         let (t, rho, x) = (self.temperature, self.density, &self.blend.fractions[..]);
+        let six = |(res, jac): ([f64; 2], [[f64; 2]; 2])| {
+            vec![res[0], res[1], jac[0][0], jac[0][1], jac[1][0], jac[1][1]]
+        };
         match self.evaluation {
             1 => {
                 let (_, p, dp_drho) = eos.p_dpdrho(t, rho, x);
@@ -310,14 +360,12 @@ impl EvalCase {
                 vec![p, dp_drho, d2p_drho2]
             }
             3 => vec![_chemical_potential(&eos, t, rho, x)],
-            4 => {
-                let (res, jac) = criticality(&eos.subset(0), t, rho, &[1.0]);
-                vec![res[0], res[1], jac[0][0], jac[0][1], jac[1][0], jac[1][1]]
-            }
-            _ => {
+            4 => six(criticality(&eos.subset(0), t, rho, &[1.0])),
+            5 => {
                 let (f, df) = stability(&eos.subset(0), t, rho, &[1.0]);
                 vec![f, df]
             }
+            _ => six(criticality(&eos, t, rho, x)),
         }
     }
 }

@@ -1,7 +1,7 @@
 //! The writer of request blocks: from the numbers of a filing to 640 bytes with the parts packed from 16 and zeros after
 //! them, its refusals, and the filing that stands in a block.
 
-use crate::block::{check, lengths, read_parts, BLOCK};
+use crate::block::{check, count_fits, kind_fits, lengths, read_parts, BLOCK};
 use crate::float;
 
 /// What a supplier files: kind, N and the numbers of the four parts.
@@ -20,9 +20,9 @@ pub struct Filing {
     pub start: f64,
 }
 
-/// N where it is 1 to 8. The whole number is tested before any length is worked out from it.
-fn components(n: u64) -> Option<usize> {
-    (1..=8).contains(&n).then_some(n as usize)
+/// N where it fits the kind. The whole number is tested before any length is worked out from it.
+fn components(kind: u64, n: u64) -> Option<usize> {
+    count_fits(kind, n).then_some(n as usize)
 }
 
 /// Floats as words. All NaNs are one value, so they get one pattern.
@@ -71,10 +71,10 @@ fn pack(parts: &[Vec<u64>; 4]) -> [u8; BLOCK] {
 
 /// The block for a buffer of this length, or the first refusal.
 fn block_for(filing: &Filing, buffer_length: usize) -> Result<[u8; BLOCK], u64> {
-    if !(1..=6).contains(&filing.kind) {
+    if !kind_fits(filing.kind) {
         return Err(2);
     }
-    let n = components(filing.n).ok_or(3u64)?;
+    let n = components(filing.kind, filing.n).ok_or(3u64)?;
     if buffer_length != BLOCK {
         return Err(8);
     }
@@ -100,9 +100,9 @@ pub fn write_block(filing: &Filing, buffer: &mut [u8]) -> u64 {
     }
 }
 
-/// What stands in the four parts of a block, used or not; `None` where a pair is wrong or N is not 1 to 8.
+/// What stands in the four parts of a block, used or not; `None` where a pair is wrong or N does not fit the kind.
 pub fn filing_of(kind: u64, n: u64, block: &[u8; BLOCK]) -> Option<Filing> {
-    let parts = read_parts(components(n)?, block)?;
+    let parts = read_parts(components(kind, n)?, block)?;
     Some(Filing {
         kind,
         n,

@@ -115,7 +115,9 @@ fn refusals() {
     let zeros = "0000000000000000 0000000000000000 0000000000000000 0";
     assert_eq!(line(3, 1, &[0; BLOCK]), format!("3 11 {zeros}"));
     assert_eq!(line(0, 0, &[0; BLOCK]), "2");
-    assert_eq!(line(7, 1, &[0; BLOCK]), "2");
+    assert_eq!(line(8, 1, &[0; BLOCK]), "2");
+    assert_eq!(line(7, 1, &[0; BLOCK]), "3");
+    assert_eq!(line(7, 2, &[0; BLOCK]), format!("7 11 {zeros}"));
     assert_eq!(line(1, 0, &[0; BLOCK]), "3");
     assert_eq!(line(1, 9, &[0; BLOCK]), "3");
     assert_eq!(line(6, 8, &[0; BLOCK]), format!("6 11 {zeros}"));
@@ -159,14 +161,15 @@ fn generated_requests_are_mixed() {
         census.count(place as u64, &request);
     }
     assert!(census.refused.contains_key(&2) && census.refused.contains_key(&3));
-    for kind in 1..=6u8 {
+    for kind in 1..=7u8 {
         let expected: &[u64] = match kind {
             1 => &[0, 11, 12, 13, 14, 15, 16, 17, 21, 22, 27],
             2 => &[0, 11, 12, 13, 14, 15, 16, 17, 22, 24, 27],
             3 => &[0, 11, 12, 13, 14, 15, 16, 17, 21, 22, 27],
             4 => &[0, 11, 12, 13, 14, 15, 16, 17, 22, 25, 27],
             5 => &[0, 11, 12, 13, 15, 16, 22, 23, 27],
-            _ => &[0, 11, 12, 13, 15, 16, 22, 26],
+            6 => &[0, 11, 12, 13, 15, 16, 22, 26],
+            _ => &[0, 11, 12, 13, 14, 15, 16, 17, 22, 23, 27],
         };
         for status in expected {
             assert!(

@@ -65,9 +65,14 @@ impl Numbers {
     }
 }
 
+/// The kinds that read n fractions.
+fn kinds(n: usize) -> impl Iterator<Item = u8> {
+    (1..=4).chain((n == 2).then_some(7))
+}
+
 /// Every kind that reads fractions refuses them with 17 or lets them pass, as told.
 fn expect(fractions: &[f64], passes: bool) {
-    for kind in 1..=4 {
+    for kind in kinds(fractions.len()) {
         // a temperature of -1 is 15, after 17
         let bad = Numbers {
             temperature: -1.0,
@@ -239,7 +244,7 @@ fn after_14() {
         [f64::INFINITY, f64::NEG_INFINITY],
         [100.0, -0.0],
     ] {
-        for kind in 1..=4 {
+        for kind in kinds(2) {
             let line = format!("{kind} 14 {ZEROS}");
             assert_eq!(numbers(&fractions).line(kind), line, "{fractions:?}");
         }
@@ -249,8 +254,8 @@ fn after_14() {
 /// All data refusals at once, mended one after the other.
 #[test]
 fn order_of_the_data_refusals() {
-    for kind in 1..=6u8 {
-        let reads_fractions = kind <= 4;
+    for kind in 1..=7u8 {
+        let reads_fractions = kind != 5 && kind != 6;
         // co-volumes of 1e-309, whose maximum density overflows
         let mut data = Numbers {
             coefficients: [1e-7, 1e308, f64::NAN],
@@ -288,7 +293,7 @@ fn order_of_the_data_refusals() {
         assert!(status.starts_with(&format!("{kind} 0 ")), "{status}");
         data.choice = 9;
         match kind {
-            2 | 3 => assert_eq!(data.line(kind), status),
+            2 | 3 | 7 => assert_eq!(data.line(kind), status),
             _ => expect(&data, 16),
         }
     }
@@ -313,7 +318,7 @@ fn kinds_5_and_6_read_no_fractions() {
 
 #[test]
 fn no_evaluations() {
-    for kind in 1..=4 {
+    for kind in kinds(2) {
         let block = numbers(&[20.0, 80.0]).block();
         let (answer, made) = trace_request(kind, 2, &block);
         assert_eq!(answer.to_string(), format!("{kind} 17 {ZEROS}"));
@@ -338,7 +343,7 @@ fn generated_requests_reach_the_limits() {
     for request in requests(1, 40_000) {
         let (kind, n) = (request[0], usize::from(request[1]));
         let block: &[u8; BLOCK] = request[2..].try_into().unwrap();
-        if !(1..=4).contains(&kind) || !(1..=8).contains(&n) {
+        if !(1..=8).contains(&n) || !kinds(n).any(|k| k == kind) {
             continue;
         }
         let Some(parts) = read_parts(n, block) else {

@@ -1,7 +1,7 @@
 //! The writer of request blocks: whole blocks made by hand from document 01's words, each refusal and its place in the
 //! order, and that the reader finds in a written block what was filed.
 
-use oracle::block::{check, pairs, Job};
+use oracle::block::{check, count_fits, kind_fits, pairs, Job};
 use oracle::filings::{filings, FilingCensus};
 use oracle::generate::requests;
 use oracle::{
@@ -248,7 +248,7 @@ fn block_of_eight() {
 fn every_kind_writes_everything() {
     for n in 1..=8 {
         let first = written(&distinct(1, n));
-        for kind in 2..=6 {
+        for kind in (2..=7).filter(|&kind| count_fits(kind, n)) {
             assert_eq!(written(&distinct(kind, n)), first, "{kind} {n}");
         }
     }
@@ -326,10 +326,11 @@ type Fault = fn(&mut Filing, &mut usize);
 /// Faults of a filing of kind 1 with two components that starts from its start.
 const FAULTS: &[(u64, Fault)] = &[
     (2, |f, _| f.kind = 0),
-    (2, |f, _| f.kind = 7),
+    (2, |f, _| f.kind = 8),
     (2, |f, _| f.kind = 255),
     (2, |f, _| f.kind = 256 + 1),
     (2, |f, _| f.kind = (1 << 16) + 1),
+    (2, |f, _| f.kind = 256 + 7),
     (2, |f, _| f.kind = (1 << 32) + 3),
     (2, |f, _| f.kind = (1 << 63) + 1),
     (2, |f, _| f.kind = u64::MAX),
@@ -344,6 +345,11 @@ const FAULTS: &[(u64, Fault)] = &[
     (3, |f, _| f.n = 1 << 63),
     (3, |f, _| f.n = (1 << 63) + 2),
     (3, |f, _| f.n = u64::MAX),
+    // kind 7 is for two components
+    (3, |f, _| (f.kind, f.n) = (7, 1)),
+    (3, |f, _| (f.kind, f.n) = (7, 3)),
+    (3, |f, _| (f.kind, f.n) = (7, 8)),
+    (3, |f, _| (f.kind, f.n) = (7, 256 + 2)),
     (8, |_, length| *length = 0),
     (8, |_, length| *length = 639),
     (8, |_, length| *length = 641),
@@ -526,9 +532,49 @@ fn refusals_by_kind() {
     });
 }
 
+/// Kind 7 reads fractions, and of the conditions temperature and start as kind 5 does.
+#[test]
+fn refusals_of_kind_7() {
+    let expect = |name: &str, expected: u64, fault: &dyn Fn(&mut Filing)| {
+        let mut filing = distinct(7, 2);
+        fault(&mut filing);
+        assert_eq!(answer(&filing), expected, "{name}");
+    };
+    let nan = f64::NAN;
+    expect("sound", 0, &|_| {});
+    expect("last acentric factor", 12, &|f| f.coefficients[5] = nan);
+    expect("interaction", 13, &|f| f.interactions[0] = nan);
+    expect("fraction", 14, &|f| f.fractions = vec![1.0, -0.0]);
+    expect("fraction 0", 0, &|f| f.fractions = vec![1.0, 0.0]);
+    expect("sum", 17, &|f| f.fractions[1] = 0.0);
+    expect("temperature", 15, &|f| f.temperature = nan);
+    expect("no temperature", 0, &|f| f.temperature = 0.0);
+    expect("temperature -0", 15, &|f| f.temperature = -0.0);
+    expect("start", 15, &|f| f.start = f64::INFINITY);
+    expect("no start", 0, &|f| f.start = 0.0);
+    expect("start -0", 0, &|f| f.start = -0.0);
+    expect("negative start", 0, &|f| f.start = -1.0);
+    expect("pressure", 0, &|f| f.pressure = nan);
+    for choice in [0, 1, 2, 3, 1 << 32, u64::MAX] {
+        expect("choice", 0, &|f| f.choice = choice);
+    }
+    // the maximum density of the blend, not of a component
+    let small = |f: &mut Filing, i: usize| {
+        (f.coefficients[3 * i], f.coefficients[3 * i + 1]) = (1e-7, 1e308)
+    };
+    expect("component 0", 0, &|f| small(f, 0));
+    expect("component 1", 0, &|f| small(f, 1));
+    expect("both components", 16, &|f| (0..2).for_each(|i| small(f, i)));
+    // N other than 2, with lists to match
+    for n in (0..=9).filter(|&n| n != 2) {
+        assert_eq!(answer(&distinct(7, n)), 3, "{n}");
+    }
+}
+
 #[test]
 fn lengths_of_lists() {
-    for (kind, n) in (1..=6).flat_map(|kind| (1..=8).map(move |n| (kind, n))) {
+    let pairs = (1..=7).flat_map(|kind| (1..=8).map(move |n| (kind, n)));
+    for (kind, n) in pairs.filter(|&(kind, n)| count_fits(kind, n)) {
         let right = [3 * n, n * (n - 1) / 2, n].map(|count| count as usize);
         for (which, right) in right.into_iter().enumerate() {
             // the last ones are right again with the count or the bytes cut to 8 or 16 bits
@@ -708,9 +754,10 @@ fn faults_of(filing: &Filing, length: usize) -> Vec<u64> {
     // an unknown kind counts as one that reads them
     let reads_fractions = kind != 5 && kind != 6;
     let sum: f64 = filing.fractions.iter().sum();
-    let temperature = positive(filing.temperature) || (kind == 5 && filing.temperature == 0.0);
+    let critical = kind == 5 || kind == 7;
+    let temperature = positive(filing.temperature) || (critical && filing.temperature == 0.0);
     let minus_zero = filing.temperature.to_bits() == 1 << 63;
-    let start = kind == 3 || kind == 5 || (kind == 1 && filing.choice == 2);
+    let start = kind == 3 || critical || (kind == 1 && filing.choice == 2);
     let choices = match kind {
         1 => 3,
         4 => 2,
@@ -730,8 +777,8 @@ fn faults_of(filing: &Filing, length: usize) -> Vec<u64> {
         }
     };
     let holds = [
-        (2, !(1..=6).contains(&kind)),
-        (3, !(1..=8).contains(&n)),
+        (2, !(1..=7).contains(&kind)),
+        (3, !(1..=8).contains(&n) || (kind == 7 && n != 2)),
         (8, length != 640),
         (11, !fits),
         (
@@ -840,20 +887,22 @@ fn generated_filings_are_mixed() {
             }
         }
     }
-    for kind in 1..=6 {
+    for kind in 1..=7 {
+        let pure = kind == 5 || kind == 6;
         for answer in [0].into_iter().chain(ORDER) {
-            let possible = answer != 2 && (kind <= 4 || (answer != 14 && answer != 17));
+            let possible = answer != 2 && !(pure && (answer == 14 || answer == 17));
             let count = census.answers.get(&(kind, answer)).copied().unwrap_or(0);
             assert_eq!(count >= 20, possible, "{kind} {answer}: {count}");
         }
         for n in 1..=8 {
-            assert!(census.written[&(kind, n)] >= 50, "{kind} {n}");
+            let count = census.written.get(&(kind, n)).copied().unwrap_or(0);
+            assert_eq!(count >= 50, count_fits(kind, n), "{kind} {n}: {count}");
         }
     }
     assert!(census.answers[&(0, 2)] >= 500);
     let accepted: u64 = census.written.values().sum();
     assert!((8_000..=12_000).contains(&accepted), "{accepted}");
-    for kind in [0, 7, 255, 256 + 1, (1 << 32) + 3, u64::MAX] {
+    for kind in [0, 8, 255, 256 + 1, 256 + 7, (1 << 32) + 3, u64::MAX] {
         assert!(kinds.contains(&kind), "{kind}");
     }
     for n in [0, 9, (1 << 32) + 1, (1 << 62) + 1, 1 << 63, u64::MAX] {
@@ -899,7 +948,8 @@ fn requests_read_and_written_again() {
     for request in requests(4, 40_000) {
         let (kind, n) = (request[0], request[1]);
         let block: &[u8; BLOCK] = request[2..].try_into().unwrap();
-        if !(1..=6).contains(&kind) || !(1..=8).contains(&n) || accepted == 20_000 {
+        let fits = kind_fits(kind.into()) && count_fits(kind.into(), n.into());
+        if !fits || accepted == 20_000 {
             continue;
         }
         let count = usize::from(n);

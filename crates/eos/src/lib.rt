@@ -11,3 +11,4 @@ pub use crate::cubic::components;
 pub use crate::cubic::compute_max_density;
 pub use crate::types::Blend;
 pub use crate::types::Component;
+pub use crate::types::PairRoots;

@@ -26,3 +26,11 @@ pub struct Mixture {
     pub a: Jet,
     pub b: Jet,
 }
+
+// The roots of ak_i * ak_j of two components.
+pub struct PairRoots {
+    pub r11: Jet,
+    pub r12: Jet,
+    pub r21: Jet,
+    pub r22: Jet,
+}

@@ -189,7 +189,8 @@ fn print_evaluation(evaluation: u8, blend: Blend, t: f64, rho: f64) {
         2 => print_pressure(evaluations::p_dpdrho_d2pdrho2(blend, t, rho)),
         3 => print_float(evaluations::chemical_potential(blend, t, rho)),
         4 => print_criticality(evaluations::criticality_conditions(first_component(blend), t, rho)),
-        _ => print_stability(evaluations::stability_condition(first_component(blend), t, rho)),
+        5 => print_stability(evaluations::stability_condition(first_component(blend), t, rho)),
+        _ => print_criticality(evaluations::criticality_conditions(blend, t, rho)),
     }
 }
 
@@ -221,7 +222,10 @@ fn run_one() -> bool {
     }
     let evaluation = head[0];
     let n = wide(head[1]) as usize;
-    if evaluation < 1 || 5 < evaluation || n < 1 || 8 < n {
+    if evaluation < 1 || 6 < evaluation || n < 1 || 8 < n {
+        return false;
+    }
+    if evaluation == 6 && n != 2 {
         return false;
     }
     run_with(evaluation, n)

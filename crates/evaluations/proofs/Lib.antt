@@ -1,2 +1,4 @@
 pub mod Evaluations
+pub mod CriticalCong
+pub mod CriticalLaws
 pub mod One

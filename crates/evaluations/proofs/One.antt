@@ -11,7 +11,7 @@ use Rattle.float.specs.Root.{root, rootOf as floatRootOf, sticky, isqrt, isqrtI
 use Rattle.float.proofs.RoundTrip.{value-back}
 use Rattle.jet.specs.Positions.{notAbove, among, pairsOf, between}
 use Rattle.jet.specs.Coefficients.{build, numberOf, markedOf, sumOf, total, less, productAt, productOf, rootAt, rootOf}
-use Rattle.evaluations.specs.Critical.{moved}
+use Rattle.evaluations.specs.Critical.{sqrtZ, moved}
 
 root-one : root f1 ≡ f1
 unfolding root floatRootOf above sticky isqrt isqrtIn round ofBits
@@ -21,12 +21,13 @@ root-jet : rootOf (numberOf f1) ≡ numberOf f1
 unfolding rootOf rootAt numberOf less between among notAbove build sub mul div round ofBits
 root-jet = rw root-one
 
-pub one-moved : moved f1 ≡ markedOf 1 f1
-unfolding moved markedOf sumOf numberOf productOf productAt total pairsOf among notAbove build add mul round ofBits
+one-moved : moved f1 (numberOf f1) ≡ markedOf 1 f1
+unfolding moved sqrtZ markedOf sumOf numberOf productOf productAt total pairsOf among notAbove build add mul round ofBits
 one-moved = rw root-jet
 
 -- told by the bits
-pub moved-by-mark : (z : Float) (t : Bool) (n : List Float) → T (fits binary64 z) → t ≡ eqb (toBits binary64 z) 0x3ff0_0000_0000_0000 → t ≡ true → n ≡ moved z → markedOf 1 z ≡ n
-moved-by-mark z t n f e g m =
-    let one : z ≡ f1 = sym (value-back z f) ∙ ap (ofBits binary64) (eqb-true (toBits binary64 z) 0x3ff0_0000_0000_0000 (sym e ∙ g)) in
-    ap (markedOf 1) one ∙ sym one-moved ∙ ap moved (sym one) ∙ sym m
+pub is-one-law : (z : Float) (t : Bool) → T (fits binary64 z) → t ≡ eqb (toBits binary64 z) 0x3ff0_0000_0000_0000 → t ≡ true → z ≡ f1
+is-one-law z t f e g = sym (value-back z f) ∙ ap (ofBits binary64) (eqb-true (toBits binary64 z) 0x3ff0_0000_0000_0000 (sym e ∙ g))
+
+pub moved-by-mark : (z : Float) → z ≡ f1 → moved z (numberOf f1) ≡ markedOf 1 z
+moved-by-mark z one = ap (λ (x : Float). moved x (numberOf f1)) one ∙ one-moved ∙ ap (markedOf 1) (sym one)

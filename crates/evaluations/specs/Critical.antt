@@ -1,52 +1,87 @@
--- The evaluations of state/critical_point.rs for one component, on jets: e0 on the mole number or s, e1 on the temperature, e2 on the density.
--- Definitions only.
-use mathlib.Core.Bool.{cond}
+-- `criticality_conditions` and `stability_condition` of state/critical_point.rs on jets, over the number n of components, one or two: e0 on the mole numbers or s, e1 on the
+-- temperature, e2 on the density. Definitions only.
+use Prim.Native.Nat.{ℕ}
+use mathlib.Core.Bool.{Bool, cond, _||_}
 use mathlib.Core.List.{List}
+use lib.Dec.{eqb}
 use lib.Ieee.{Float, eq}
 use Rattle.float.specs.Ops.{f0, f1}
 use Rattle.jet.specs.Coefficients.{at, numberOf, markedOf, recipOf, rootOf, logarithmOf, derivativeOf}
 use Rattle.jet.specs.Ops.{_⊞_, _⊟_, _⊠_, _⧄_}
+use Rattle.linear.specs.SmallestEv.{half, smallestOf, vectorOf}
 use Rattle.eos.specs.declared.types.Blend.{Blend}
 use Rattle.evaluations.specs.declared.types.Criticality.{Criticality}
 use Rattle.evaluations.specs.declared.types.Stability.{Stability}
+use Rattle.eos.specs.Indices.{jetTotal}
 use Rattle.eos.specs.Cubic.{nth}
 use Rattle.eos.specs.Helmholtz.{helmholtz}
 
--- "eos.lift().residual_helmholtz_energy(t, v, &n) / t", of one component
-unfoldable pub energyOverT : Blend → List Float → List Float → List Float → List Float
-energyOverT b t v n = helmholtz b 1 t v (λ i. n) ⧄ t
+-- "eos.lift().residual_helmholtz_energy(t, v, &n) / t"
+unfoldable pub energyOverT : Blend → (n : ℕ) → List Float → List Float → (ℕ → List Float) → List Float
+energyOverT b n t v moles = helmholtz b n t v moles ⧄ t
 
--- `dmu_dn`: the second derivative by the mole number, z + e0
-unfoldable pub dmuDn : Blend → List Float → List Float → Float → List Float
-dmuDn b t v z = derivativeOf 2 (energyOverT b t v (markedOf 1 z))
+-- the fractions as mole numbers, those of a direction with the mark e0
+unfoldable pub along : Blend → (direction : ℕ → Bool) → ℕ → List Float
+along b direction i = cond (direction i) (markedOf 1 (nth (b .x) i)) (numberOf (nth (b .x) i))
 
--- M, which is its own smallest eigenvalue: "m.component_mul(&z_mix) + OMatrix::identity_generic(r, c)"
-unfoldable pub eigenvalue : Blend → List Float → List Float → Float → List Float
-eigenvalue b t v z = let s = rootOf (numberOf z) in dmuDn b t v z ⊠ (s ⊠ s) ⊞ numberOf f1
+unfoldable pub secondAlong : Blend → (n : ℕ) → List Float → List Float → (direction : ℕ → Bool) → List Float
+secondAlong b n t v direction = derivativeOf 2 (energyOverT b n t v (along b direction))
 
--- "n + sqrt_z.component_mul(&u).map(Dual3::from_re) * s", with the eigenvector 1 and s = 0 + e0
-unfoldable pub moved : Float → List Float
-moved z = numberOf z ⊞ rootOf (numberOf z) ⊠ numberOf f1 ⊠ markedOf 1 f0
+-- `dmu_dn`, entry i, j: "three jets in directions (1,0), (0,1) and (1,1); the mixed entry is half of the third less the first and less the second"
+unfoldable pub dmuDn : Blend → (n : ℕ) → List Float → List Float → (i j : ℕ) → List Float
+dmuDn b n t v i j =
+    cond (eqb i j) (secondAlong b n t v (eqb i))
+    ((secondAlong b n t v (λ k. eqb i k || eqb j k) ⊟ secondAlong b n t v (eqb i) ⊟ secondAlong b n t v (eqb j)) ⊠ numberOf half)
 
--- "n.dot(..)": `is_zero` looks at position 0
-unfoldable pub idealGas : List Float → List Float → List Float
-idealGas n v = n ⊠ cond (eq (at n 0) f0) (numberOf f0) (logarithmOf (n ⧄ v) ⊟ numberOf f1)
+-- "molefracs.map(|z| z.sqrt())"
+unfoldable pub sqrtZ : Float → List Float
+sqrtZ z = rootOf (numberOf z)
+
+-- M, entry i, j: "m.component_mul(&z_mix) + OMatrix::identity_generic(r, c)"
+unfoldable pub matrix : Blend → (n : ℕ) → List Float → List Float → (i j : ℕ) → List Float
+matrix b n t v i j = dmuDn b n t v i j ⊠ (sqrtZ (nth (b .x) i) ⊠ sqrtZ (nth (b .x) j)) ⊞ numberOf (cond (eqb i j) f1 f0)
+
+-- "smallest_ev(m)": of two components document 02's rules, "of one component .. the entry, vector 1"
+unfoldable pub eigenvalue : Blend → (n : ℕ) → List Float → List Float → List Float
+eigenvalue b n t v = let m = matrix b n t v in cond (eqb n 2) (smallestOf (m 0 0) (m 0 1) (m 1 1)) (m 0 0)
+
+unfoldable pub eigenvector : Blend → (n : ℕ) → List Float → List Float → (i : ℕ) → List Float
+eigenvector b n t v i = let m = matrix b n t v in cond (eqb n 2) (vectorOf (m 0 0) (m 0 1) (m 1 1) i) (numberOf f1)
+
+-- "n + sqrt_z.component_mul(&u).map(Dual3::from_re) * s", with s = 0 + e0: of a fraction z and the entry u, and of each component
+unfoldable pub moved : Float → List Float → List Float
+moved z u = numberOf z ⊞ sqrtZ z ⊠ u ⊠ markedOf 1 f0
+
+unfoldable pub movedAlong : Blend → (n : ℕ) → List Float → List Float → (i : ℕ) → List Float
+movedAlong b n t v i = moved (nth (b .x) i) (eigenvector b n t v i)
+
+-- "n.dot(..)": a component's term, where `is_zero` looks at position 0, and their sum
+unfoldable pub idealTerm : List Float → List Float → List Float
+idealTerm n v = n ⊠ cond (eq (at n 0) f0) (numberOf f0) (logarithmOf (n ⧄ v) ⊟ numberOf f1)
+
+unfoldable pub idealGas : (n : ℕ) → (ℕ → List Float) → List Float → List Float
+idealGas n moles v = jetTotal n (λ i. idealTerm (moles i) v)
 
 -- c2: the third derivative by s
-unfoldable pub thirdDerivative : Blend → List Float → List Float → Float → List Float
-thirdDerivative b t v z = let n = moved z in derivativeOf 3 (energyOverT b t v n ⊞ idealGas n v)
+unfoldable pub thirdDerivative : Blend → (n : ℕ) → List Float → List Float → List Float
+thirdDerivative b n t v = derivativeOf 3 (energyOverT b n t v (movedAlong b n t v) ⊞ idealGas n (movedAlong b n t v) v)
+
+-- how many components a critical point is of: two, or else the first alone
+unfoldable pub criticalCount : Blend → ℕ
+criticalCount b = cond (eqb (b .n) 2) 2 1
 
 -- `criticality_conditions`, with the Jacobian at the positions of e1 and e2
 unfoldable pub criticalityConditions : Blend → Float → Float → Criticality
 criticalityConditions b temperature density =
+    let n = criticalCount b in
     let t = markedOf 4 temperature in
     let v = recipOf (markedOf 8 density) in
-    let l = eigenvalue b t v (nth (b .x) 0) in
-    let c = thirdDerivative b t v (nth (b .x) 0) in
+    let l = eigenvalue b n t v in
+    let c = thirdDerivative b n t v in
     record { l = at l 0; c2 = at c 0; «dl_dt» = at l 4; «dl_drho» = at l 8; «dc2_dt» = at c 4; «dc2_drho» = at c 8 }
 
--- `stability_condition`, with its derivative by the density
+-- `stability_condition` of the first component, with its derivative by the density
 unfoldable pub stabilityCondition : Blend → Float → Float → Stability
 stabilityCondition b temperature density =
-    let l = eigenvalue b (numberOf temperature) (recipOf (markedOf 8 density)) (nth (b .x) 0) in
+    let l = eigenvalue b 1 (numberOf temperature) (recipOf (markedOf 8 density)) in
     record { f = at l 0; df = at l 8 }

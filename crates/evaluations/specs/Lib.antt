@@ -1,2 +1,3 @@
 pub mod Residual
 pub mod Critical
+pub mod Entries

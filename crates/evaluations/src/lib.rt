@@ -1,7 +1,10 @@
 // The evaluations that searches ask for, each equal to one definition: pressures and potentials along the density, the
 // conditions of criticality and of stability.
 mod critical_point;
+mod mole_numbers;
+mod one_component;
 mod residual;
+mod two_components;
 mod types;
 
 pub use crate::critical_point::criticality_conditions;

@@ -1,4 +1,5 @@
-// What the evaluations yield, each a record of floats by value.
+// What the evaluations yield, each a record of floats by value, and the jets that they come from.
+use jet::Jet;
 
 // Pressure, its slope and its curvature along the density.
 pub struct Pressure {
@@ -21,4 +22,17 @@ pub struct Criticality {
 pub struct Stability {
     pub f: f64,
     pub df: f64,
+}
+
+// The two criticality conditions as jets.
+pub struct ConditionJets {
+    pub l: Jet,
+    pub c2: Jet,
+}
+
+// The entries of a symmetric 2 by 2 matrix of jets.
+pub struct SymmetricMatrix {
+    pub m11: Jet,
+    pub m12: Jet,
+    pub m22: Jet,
 }

@@ -9,7 +9,7 @@ use mathlib.Core.List.{List, [], _∷_, _++_, append-nil}
 use lib.ListN.{take, replicate, length-take}
 use lib.Seq.{ext-getD, getD-take, take-at, take-take, length-take-le}
 use lib.Dec.{leb, eqb}
-use borrow.Author.Tests.{leb-true, leb-false}
+use borrow.Author.Tests.{leb-true, leb-false, eqb-true}
 use lib.Ieee.{Float, nan}
 use Rattle.float.specs.Ops.{_⊕_, _⊗_, f0}
 use Rattle.float.specs.Root.{root}
@@ -157,21 +157,22 @@ take-cut n f = go (leb n positions) refl
         let z : positions - n ≡ 0 = omega arith in
         rw (z, append-nil, take-take n n (build f positions) (omega arith))
 
--- ---- a derivative by e0: its first n coefficients need three more of its operand
+-- ---- a derivative by e0: its first n coefficients, n a multiple of four, need the first n of its operand
 
-derivative-at : (n k : ℕ) (a b c d : List Float) (m : ℕ) → m < n → take (n + 3) a ≡ take (n + 3) b → derivativeAt k a c m ≡ derivativeAt k b d m
+derivative-at : (n k : ℕ) (a b c d : List Float) (m : ℕ) → m < n → n % 4 ≡ 0 → take n a ≡ take n b → derivativeAt k a c m ≡ derivativeAt k b d m
 unfolding derivativeAt
-derivative-at n k a b c d m h e = go (leb k 3) refl (eqb (m % 4) 0)
+derivative-at n k a b c d m h f e = go (leb k 3) refl (eqb (m % 4) 0) refl
   where
-    go : (x : Bool) → leb k 3 ≡ x → (y : Bool) → cond (x && y) (factorialOf k ⊗ at a (m + k)) f0 ≡ cond (x && y) (factorialOf k ⊗ at b (m + k)) f0
-    go true p true =
+    go : (x : Bool) → leb k 3 ≡ x → (y : Bool) → eqb (m % 4) 0 ≡ y → cond (x && y) (factorialOf k ⊗ at a (m + k)) f0 ≡ cond (x && y) (factorialOf k ⊗ at b (m + k)) f0
+    go true p true q =
         let l = leb-true k 3 p in
-        ap (λ (v : Float). factorialOf k ⊗ v) (taken (n + 3) (m + k) a b e (omega arith))
-    go true p false = refl
-    go false p y = refl
+        let z = eqb-true (m % 4) 0 q in
+        ap (λ (v : Float). factorialOf k ⊗ v) (taken n (m + k) a b e (omega arith))
+    go true p false q = refl
+    go false p y q = refl
 
-pub derivative-first : (n k : ℕ) (a b : List Float) → take (n + 3) a ≡ take (n + 3) b → take n (derivativeOf k a) ≡ take n (derivativeOf k b)
+pub derivative-first : (n k : ℕ) (a b : List Float) → n % 4 ≡ 0 → take n a ≡ take n b → take n (derivativeOf k a) ≡ take n (derivativeOf k b)
 unfolding derivativeOf
-derivative-first n k a b e =
+derivative-first n k a b f e =
     take-ext (derivativeAt k a) (derivativeAt k b) n
-    (λ m h l. build-at (derivativeAt k a) positions m l ∙ derivative-at n k a b _ _ m h e ∙ sym (build-at (derivativeAt k b) positions m l))
+    (λ m h l. build-at (derivativeAt k a) positions m l ∙ derivative-at n k a b _ _ m h f e ∙ sym (build-at (derivativeAt k b) positions m l))

@@ -1,1 +1,2 @@
 pub mod Rows2
+pub mod Eigenvectors

@@ -1,5 +1,6 @@
 -- `eos::helmholtz_12::alone` meets its contract. Assumes nothing.
 use Rattle.eos.proofs.Energy.{alone-law}
+use Rattle.eos.proofs.Pair.{term-of-root}
 use borrow.Author.Needs.{needs}
 use Rattle.eos.proofs.helmholtz_12.alone.Statement.{statement}
 use Rattle.eos.proofs.helmholtz_12.alone.Tie as tie
@@ -31,6 +32,9 @@ element-copy-out-sqrt-2 c = search needs
 sqrt-requires : tie.Need-sqrt-requires
 sqrt-requires c κs = search needs
 
+ak-root-requires : tie.Need-ak-root-requires
+ak-root-requires c κs = search needs
+
 array-read-mix-term : tie.Need-array-read-mix-term
 array-read-mix-term c = search needs
 
@@ -54,8 +58,8 @@ mul-12-requires c κs = search needs
 
 returns : tie.Need-returns
 returns c =
-    let a = c .before .before .before .before .before .before .before .before .before .before .before .before .before .before .before .before .args in
-    alone-law 12 (a .blend) (a .t .c) (a .v .c) (a .moles .c) (c .before .before .before .before .before .before .before .before .before .before .div-12 .result .c) (c .before .before .before .before .before .before .before .before .before .div-122 .result .c) (c .before .before .before .before .before .before .before .before .ak .result .c) (c .before .before .before .number .result .c) (c .before .before .before .before .mix-term .result .c) (c .before .before .add .result .c) (c .before .number2 .result .c) (c .mul-12 .result .c) (c .before .before .before .before .before .before .before .before .before .before .div-12 .ensures) (c .before .before .before .before .before .before .before .before .before .div-122 .ensures) (c .before .before .before .before .before .before .before .before .ak .ensures) (c .before .before .before .before .mix-term .ensures) (c .before .before .before .number .ensures) (c .before .before .add .ensures) (c .before .number2 .ensures) (c .mul-12 .ensures)
+    let a = c .before .before .before .before .before .before .before .before .before .before .before .before .before .before .before .before .before .args in
+    alone-law 12 (a .blend) (a .t .c) (a .v .c) (a .moles .c) (c .before .before .before .before .before .before .before .before .before .before .before .div-12 .result .c) (c .before .before .before .before .before .before .before .before .before .before .div-122 .result .c) (c .before .before .before .before .before .before .before .before .before .ak .result .c) (c .before .before .before .number .result .c) (c .before .before .before .before .mix-term .result .c) (c .before .before .add .result .c) (c .before .number2 .result .c) (c .mul-12 .result .c) (c .before .before .before .before .before .before .before .before .before .before .before .div-12 .ensures) (c .before .before .before .before .before .before .before .before .before .before .div-122 .ensures) (c .before .before .before .before .before .before .before .before .before .ak .ensures) (term-of-root 12 (c .before .before .before .before .before .before .before .before .before .ak .result .c) (c .before .before .before .before .before .before .before .before .before .ak .result .c) (c .before .before .before .before .before .before .before .before .before .before .div-122 .result .c) (c .before .before .before .before .before .before .before .before .before .before .div-122 .result .c) _ (c .before .before .before .before .before .ak-root .result .c) (c .before .before .before .before .mix-term .result .c) (c .before .before .before .before .before .ak-root .ensures) (c .before .before .before .before .mix-term .ensures)) (c .before .before .before .number .ensures) (c .before .before .add .ensures) (c .before .number2 .ensures) (c .mul-12 .ensures)
 
 pub alone-spec : {M : Type 1} → statement M
 alone-spec =
@@ -70,6 +74,7 @@ alone-spec =
     element-copy-out-sqrt
     element-copy-out-sqrt-2
     sqrt-requires
+    ak-root-requires
     array-read-mix-term
     mix-term-requires
     number-requires

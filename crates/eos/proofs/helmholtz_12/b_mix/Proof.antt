@@ -1,112 +1,44 @@
 -- `eos::helmholtz_12::b_mix` meets its contract. Assumes nothing.
-use mathlib.Core.Path.{refl, ap}
-use Prim.Native.Nat.{_-_, _≤_}
-use native.Mathlib.Omega.{arith}
-use lib.ListN.{take}
-use Rattle.jet.specs.Coefficients.{Upto, numberOf}
-use Rattle.jet.specs.Ops.{_⊞_, _⊠_}
-use Rattle.jet.proofs.Prefix.{add-upto, mul-upto}
-use Rattle.eos.specs.Indices.{foldFrom, jetTotal}
-use Rattle.eos.specs.Jets.{jetAt}
-use Rattle.eos.specs.Cubic.{nth, bMix}
-use Rattle.eos.proofs.Folds.{fold-keeps, upto-turn, upto-end}
-use Rattle.eos.proofs.Totals.{adding-keeps}
+use Rattle.eos.proofs.Pair.{b-mix-law}
 use borrow.Author.Needs.{needs}
 use Rattle.eos.proofs.helmholtz_12.b_mix.Statement.{statement}
 use Rattle.eos.proofs.helmholtz_12.b_mix.Tie as tie
 
-abbrev Inv-loop : tie.InvT-loop
-Inv-loop n b x m₀ i₀ m i = (1 ≤ i) × Upto 12 (foldFrom (λ s i. s ⊞ jetAt x i ⊠ numberOf (nth b i)) (n - i) i (m .c)) (bMix n (jetAt x) (nth b))
-
-abbrev μ-loop : tie.MeasureT-loop
-μ-loop n b x m₀ i₀ m i = n - i
-
-array-copy-out-mul-12 : tie.Need-array-copy-out-mul-12 Inv-loop μ-loop
-array-copy-out-mul-12 c = search needs
-
-element-copy-out-number : tie.Need-element-copy-out-number Inv-loop μ-loop
+element-copy-out-number : tie.Need-element-copy-out-number
 element-copy-out-number c = search needs
 
-number-requires : tie.Need-number-requires Inv-loop μ-loop
+number-requires : tie.Need-number-requires
 number-requires c κs = search needs
 
-mul-12-requires : tie.Need-mul-12-requires Inv-loop μ-loop
+mul-12-requires : tie.Need-mul-12-requires
 mul-12-requires c κs = search needs
 
-loop-holds : tie.Need-loop-holds Inv-loop μ-loop
-unfolding bMix jetTotal
-loop-holds c =
-    let a = c .before .before .before .before .args in
-    let x = a .t2 in
-    let b = a .b .now in
-    let first = mul-upto 12 (jetAt x 0) (jetAt x 0) _ refl _ (numberOf (nth b 0)) (ap (take 12) (c .before .number .ensures)) (c .mul-12 .ensures) in
-    (omega arith, fold-keeps 12 (λ s i. s ⊞ jetAt x i ⊠ numberOf (nth b i)) (adding-keeps 12 (λ i. jetAt x i ⊠ numberOf (nth b i))) (a .n - 1) 1 _ _ first)
-
-mul-mul-12 : tie.Need-mul-mul-12 Inv-loop μ-loop
-mul-mul-12 c = search needs
-
-array-copy-out-mul-12-2 : tie.Need-array-copy-out-mul-12-2 Inv-loop μ-loop
-array-copy-out-mul-12-2 c = search needs
-
-mul-number : tie.Need-mul-number Inv-loop μ-loop
-mul-number c = search needs
-
-element-copy-out-number-2 : tie.Need-element-copy-out-number-2 Inv-loop μ-loop
+element-copy-out-number-2 : tie.Need-element-copy-out-number-2
 element-copy-out-number-2 c = search needs
 
-number-requires-2 : tie.Need-number-requires-2 Inv-loop μ-loop
+number-requires-2 : tie.Need-number-requires-2
 number-requires-2 c κs = search needs
 
-mul-12-requires-2 : tie.Need-mul-12-requires-2 Inv-loop μ-loop
+mul-12-requires-2 : tie.Need-mul-12-requires-2
 mul-12-requires-2 c κs = search needs
 
-add-requires : tie.Need-add-requires Inv-loop μ-loop
+add-requires : tie.Need-add-requires
 add-requires c κs = search needs
 
-add-i : tie.Need-add-i Inv-loop μ-loop
-add-i c = search needs
-
-loop-less : tie.Need-loop-less Inv-loop μ-loop
-loop-less c = search needs
-
-loop-again : tie.Need-loop-again Inv-loop μ-loop
-loop-again c =
-    let l = c .before .before .before .before .before .before in
-    let a = l .before .before .before .before .before .args in
-    let x = a .t2 in
-    let b = a .b .now in
-    let i = l .loop .i in
-    let term = mul-upto 12 (jetAt x i) (jetAt x i) _ refl _ (numberOf (nth b i)) (ap (take 12) (c .before .before .number2 .ensures)) (c .before .mul-122 .ensures) in
-    let sum = add-upto 12 (l .loop .m .c) (l .loop .m .c) _ refl _ (jetAt x i ⊠ numberOf (nth b i)) term (c .add .ensures) in
-    (omega arith, upto-turn 12 (λ s i. s ⊞ jetAt x i ⊠ numberOf (nth b i)) (adding-keeps 12 (λ i. jetAt x i ⊠ numberOf (nth b i))) (a .n) i (l .loop .m .c) (c .add .result .c) (bMix (a .n) (jetAt x) (nth b)) (omega arith) sum (l .loop .inv .1))
-
-returns : tie.Need-returns Inv-loop μ-loop
+returns : tie.Need-returns
 returns c =
-    let l = c .before in
-    let a = l .before .before .before .before .before .args in
-    let x = a .t2 in
-    let b = a .b .now in
-    upto-end 12 (λ s i. s ⊞ jetAt x i ⊠ numberOf (nth b i)) (adding-keeps 12 (λ i. jetAt x i ⊠ numberOf (nth b i))) (a .n) (l .loop .i) (l .loop .m .c) (bMix (a .n) (jetAt x) (nth b)) (omega arith) (l .loop .inv .1)
+    let a = c .before .before .before .before .before .before .before .args in
+    b-mix-law 12 _ _ (a .b .now) _ _ _ _ _ (c .before .before .before .before .before .number .ensures) (c .before .before .before .before .mul-12 .ensures) (c .before .before .number2 .ensures) (c .before .mul-122 .ensures) (c .add .ensures)
 
 pub b-mix-spec : {M : Type 1} → statement M
 b-mix-spec =
     tie.close
     (tie.spec
-    Inv-loop
-    μ-loop
-    array-copy-out-mul-12
     element-copy-out-number
     number-requires
     mul-12-requires
-    loop-holds
-    mul-mul-12
-    array-copy-out-mul-12-2
-    mul-number
     element-copy-out-number-2
     number-requires-2
     mul-12-requires-2
     add-requires
-    add-i
-    loop-less
-    loop-again
     returns)

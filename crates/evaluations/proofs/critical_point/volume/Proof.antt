@@ -1,5 +1,5 @@
 -- `evaluations::critical_point::volume` meets its contract. Assumes nothing.
-use Rattle.evaluations.proofs.Evaluations.{volume-law}
+use Rattle.evaluations.proofs.CriticalLaws.{volume-law}
 use borrow.Author.Needs.{needs}
 use Rattle.evaluations.proofs.critical_point.volume.Statement.{statement}
 use Rattle.evaluations.proofs.critical_point.volume.Tie as tie
@@ -14,7 +14,8 @@ div-12-requires : tie.Need-div-12-requires
 div-12-requires c κs = search needs
 
 returns : tie.Need-returns
-returns c = volume-law (c .before .before .before .args .density) _ _ _ (c .before .before .number .ensures) (c .before .marked .ensures) (c .div-12 .ensures)
+returns c =
+    volume-law (c .before .before .before .args .density) _ _ _ (c .before .before .number .ensures) (c .before .marked .ensures) (c .div-12 .ensures)
 
 pub volume-spec : {M : Type 1} → statement M
 volume-spec = tie.close (tie.spec number-requires marked-requires div-12-requires returns)

@@ -1,0 +1,28 @@
+-- `evaluations::one_component::smallest` meets its contract. Assumes nothing.
+use Rattle.evaluations.proofs.CriticalLaws.{smallest-of-one}
+use borrow.Author.Needs.{needs}
+use Rattle.evaluations.proofs.one_component.smallest.Statement.{statement}
+use Rattle.evaluations.proofs.one_component.smallest.Tie as tie
+
+array-read-sqrt-z : tie.Need-array-read-sqrt-z
+array-read-sqrt-z c = search needs
+
+sqrt-z-requires : tie.Need-sqrt-z-requires
+sqrt-z-requires c κs = search needs
+
+derivative-requires : tie.Need-derivative-requires
+derivative-requires c κs = search needs
+
+entry-requires : tie.Need-entry-requires
+entry-requires c κs = search needs
+
+returns : tie.Need-returns
+returns c =
+    let s = c .before .before .before .before in
+    let a = s .args in
+    smallest-of-one (a .blend) (a .t .c) (a .v .c) (a .e .c) _ (c .before .before .sqrt-z .result .c) (c .entry .result .c) (s .pre) (c .before .before .sqrt-z .ensures) (c .before .derivative .ensures) (c .entry .ensures)
+
+pub smallest-spec : {M : Type 1} → statement M
+smallest-spec =
+    tie.close
+    (tie.spec array-read-sqrt-z sqrt-z-requires derivative-requires entry-requires returns)
