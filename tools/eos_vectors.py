@@ -3,9 +3,9 @@
 
 usage: tools/eos_vectors.py [ORACLE]      run at the project's root; ORACLE is oracle/target/release/oracle by default
 
-stdin: the oracle's own evaluations (--evals); each evaluation on blends of 1 to 8 real fluids; the evaluations in turn on
-every pair of a special temperature and a special density; and each at the covolume, where the repulsive term divides
-by about zero.
+stdin: the oracle's own evaluations (--evals); each evaluation on blends of 1 to 8 real fluids, criticality of two on blends of two;
+the evaluations in turn on every pair of a special temperature and a special density; and each at the covolume, where the
+repulsive term divides by about zero.
 stdout: the lines of `oracle --evals-run`.
 """
 import random
@@ -13,7 +13,9 @@ import struct
 import subprocess
 import sys
 
-EVALUATIONS = range(1, 6)
+EVALUATIONS = range(1, 7)
+# criticality of two components, for no other number
+OF_TWO = 6
 
 # critical temperature in K, critical pressure in Pa, acentric factor
 FLUIDS = [
@@ -44,18 +46,19 @@ def covolume(fluid):
 
 def own_evaluations(rng):
     for n in range(1, 9):
-        for evaluation in EVALUATIONS:
-            for _ in range(2):
+        for evaluation in (e for e in EVALUATIONS if e != OF_TWO or n == 2):
+            for _ in range(20 if evaluation == OF_TWO else 2):
                 fluids = rng.sample(FLUIDS, n)
                 interactions = [rng.uniform(-0.1, 0.2) for _ in range(n * (n - 1) // 2)]
                 fractions = [rng.uniform(0.01, 1.0) for _ in range(n)]
                 b = sum(x * covolume(f) for x, f in zip(fractions, fluids)) / sum(fractions)
                 yield record(evaluation, fluids, interactions, fractions, rng.uniform(100.0, 700.0), rng.uniform(0.01, 0.95) / b)
     for i, (temperature, density) in enumerate((t, rho) for t in TEMPERATURES for rho in DENSITIES):
-        yield record(1 + i % 5, FLUIDS[:2], [0.01], [0.4, 0.6], temperature, density)
+        yield record(1 + i % 6, FLUIDS[:2], [0.01], [0.4, 0.6], temperature, density)
     for evaluation in EVALUATIONS:
         for fluid in FLUIDS:
-            yield record(evaluation, [fluid], [], [1.0], fluid[0], 1.0 / covolume(fluid))
+            fluids, interactions, fractions = ([fluid] * 2, [0.0], [0.5, 0.5]) if evaluation == OF_TWO else ([fluid], [], [1.0])
+            yield record(evaluation, fluids, interactions, fractions, fluid[0], 1.0 / covolume(fluid))
 
 
 def split(records):

@@ -1,6 +1,6 @@
 //! Blocks for a kind and N, from the oracle's generator: fitting, of another request, damaged, and no blocks at all.
 
-use oracle::block::lengths;
+use oracle::block::{count_fits, kind_fits, lengths, KINDS};
 use oracle::generate::requests;
 use oracle::random::Rng;
 use oracle::BLOCK;
@@ -19,12 +19,12 @@ fn place(kind: u64, n: u64) -> usize {
 impl Blocks {
     /// What one chunk of a trial picks from.
     pub fn new(seed: u64, chunk: u64) -> Self {
-        let mut fitting = vec![Vec::new(); 48];
+        let mut fitting = vec![Vec::new(); 8 * KINDS as usize];
         let mut all = Vec::new();
         for request in requests(Rng::new(seed ^ chunk << 32).bits(), 6000) {
             let block: Block = request[2..].try_into().expect("640 bytes");
             let (kind, n) = (request[0].into(), request[1].into());
-            if (1..=6).contains(&kind) && (1..=8).contains(&n) {
+            if kind_fits(kind) && count_fits(kind, n) {
                 fitting[place(kind, n)].push(block);
             }
             all.push(block);
@@ -34,7 +34,7 @@ impl Blocks {
 
     /// A block that the generator made for this kind and N, or for another where it made none.
     pub fn fitting(&self, rng: &mut Rng, kind: u64, n: u64) -> Block {
-        let inside = (1..=6).contains(&kind) && (1..=8).contains(&n);
+        let inside = kind_fits(kind) && count_fits(kind, n);
         match inside.then(|| &self.fitting[place(kind, n)]) {
             Some(blocks) if !blocks.is_empty() => rng.pick(blocks),
             _ => rng.pick(&self.all),

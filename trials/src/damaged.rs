@@ -18,10 +18,12 @@ use oracle::BLOCK;
 
 // ---- boards from runs
 
-fn count(rng: &mut Rng) -> u64 {
+/// An N, in kind 7 mostly the one that fits.
+fn count(rng: &mut Rng, kind: u64) -> u64 {
     match rng.below(6) {
         0 => 1 + rng.below(8) as u64,
         1 => 2,
+        _ if kind == 7 => 2,
         _ => 1,
     }
 }
@@ -35,7 +37,8 @@ struct Run {
 impl Run {
     fn submit(&mut self, rng: &mut Rng, blocks: &Blocks, jobs: usize) {
         for _ in 0..jobs {
-            let (queue, kind, n) = (rng.below(4) as u64, rng.pick(self.kinds), count(rng));
+            let (queue, kind) = (rng.below(4) as u64, rng.pick(self.kinds));
+            let n = count(rng, kind);
             let block = blocks.any(rng, kind, n);
             board::submit(&mut self.board, queue, kind, n, &block);
         }
@@ -64,7 +67,13 @@ impl Run {
 fn fresh(rng: &mut Rng, blocks: &Blocks) -> Run {
     let mut run = Run {
         board: vec![0; BOARD],
-        kinds: rng.pick(&[&[1, 2][..], &[3, 4], &[3, 4, 5, 6], &[1, 2, 3, 4, 5, 6]]),
+        kinds: rng.pick(&[
+            &[1, 2][..],
+            &[3, 4],
+            &[3, 4, 5, 6, 7],
+            &[5, 7],
+            &[1, 2, 3, 4, 5, 6, 7],
+        ]),
     };
     for queue in 0..4 {
         if rng.once_in(2) {
@@ -147,7 +156,7 @@ fn telling(rng: &mut Rng, q: &[u8]) -> Option<[f64; 2]> {
     let job = check(kind, n, block.try_into().expect("a whole block")).ok()?;
     let (eos, x, t) = (&job.eos, &job.molefracs[..], job.temperature);
     let evals = &mut Evaluations::default();
-    if kind == 5 || (kind == 6 && rng.once_in(2)) {
+    if kind == 5 || kind == 7 || (kind == 6 && rng.once_in(2)) {
         return critical_point(eos, x, None, None, evals).ok();
     }
     if kind == 6 {
@@ -223,7 +232,7 @@ fn damage_quarter(rng: &mut Rng, blocks: &Blocks, q: &mut [u8]) {
             put(q, TURNS, rng.pick(&[0, 1, end - 2, end - 1, end, end + 1]));
         }
         9 => {
-            let kind = rng.below(8) as u64;
+            let kind = rng.below(9) as u64;
             put(q, kind_at(slot), kind);
         }
         10 => {

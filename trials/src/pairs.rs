@@ -59,7 +59,7 @@ struct Theme {
 fn theme(rng: &mut Rng) -> Theme {
     let short = Theme {
         calls: 80 + rng.below(280),
-        kinds: &[3, 3, 3, 4, 4, 4, 5],
+        kinds: &[3, 3, 3, 4, 4, 4, 5, 7],
         submits: 8,
         looks: 10,
         burst: rng.below(6),
@@ -77,16 +77,16 @@ fn theme(rng: &mut Rng) -> Theme {
         },
         1 | 2 => Theme {
             calls: 13_800,
-            kinds: &[1, 1, 3, 4, 5, 6],
+            kinds: &[1, 1, 3, 4, 5, 6, 7],
             submits: 1000,
             looks: 50,
             burst: 8,
             ..short
         },
-        // for kinds 5 and 6
+        // for kinds 5 to 7
         3..=22 => Theme {
             calls: 800 + rng.below(800),
-            kinds: &[3, 4, 5, 6, 6],
+            kinds: &[3, 4, 5, 6, 6, 7, 7],
             submits: 80,
             burst: 4 + rng.below(8),
             ..short
@@ -112,10 +112,12 @@ fn wrong_number(rng: &mut Rng) -> u64 {
     }
 }
 
-fn count(rng: &mut Rng) -> u64 {
+/// An N, in kind 7 mostly the one that fits.
+fn count(rng: &mut Rng, kind: u64) -> u64 {
     match rng.below(8) {
         0 => 1 + rng.below(8) as u64,
         1 | 2 => 2,
+        _ if kind == 7 => 2,
         _ => 1,
     }
 }
@@ -123,7 +125,7 @@ fn count(rng: &mut Rng) -> u64 {
 fn submit_call(rng: &mut Rng, theme: &Theme, blocks: &Blocks) -> Call {
     let mut queue = rng.below(4) as u64;
     let mut kind = rng.pick(theme.kinds);
-    let mut n = count(rng);
+    let mut n = count(rng, kind);
     let mut length = BLOCK;
     if rng.once_in(theme.wrong) {
         queue = wrong_number(rng);

@@ -3,7 +3,7 @@
 
 use crate::proved;
 use crate::report::{hex, same, same_bytes, Difference, Options, Outcome, Progress, Tally};
-use oracle::block::check;
+use oracle::block::{check, count_fits, kind_fits, KINDS};
 use oracle::board::{put, RECORD};
 use oracle::filings::filings;
 use oracle::generate::requests;
@@ -87,7 +87,7 @@ fn write(filing: &Filing, buffer: &[u8], tally: &mut Tally) -> Outcome {
 fn again(request: &[u8], tally: &mut Tally) -> Outcome {
     let (kind, n) = (request[0], request[1]);
     let block: &[u8; BLOCK] = request[2..].try_into().expect("640 bytes");
-    if !(1..=6).contains(&kind) || !(1..=8).contains(&n) {
+    if !kind_fits(kind.into()) || !count_fits(kind.into(), n.into()) {
         return Ok(());
     }
     let Some(filing) = filing_of(kind.into(), n.into(), block) else {
@@ -126,7 +126,8 @@ fn plain(kind: u64, n: u64) -> Filing {
 
 /// Every list of every kind and N at every length up to twice the right one and some more, and buffers up to 1,300 bytes.
 fn every_length(tally: &mut Tally) -> Outcome {
-    for (kind, n) in (1..=6).flat_map(|kind| (1..=8).map(move |n| (kind, n))) {
+    let all = (1..=KINDS).flat_map(|kind| (1..=8).map(move |n| (kind, n)));
+    for (kind, n) in all.filter(|&(kind, n)| count_fits(kind, n)) {
         for which in 0..3 {
             let right = plain(kind, n).list_mut(which).len();
             for length in 0..2 * right + 4 {

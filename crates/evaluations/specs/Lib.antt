@@ -1,3 +1,4 @@
 pub mod Residual
 pub mod Critical
 pub mod Entries
+pub mod OneComponent
