@@ -413,7 +413,8 @@ fn try_calls(rng: &mut Rng, blocks: &Blocks, boards: &mut Boards, tally: &mut Ta
     let said = boards.look(queue)?;
     tally.add(answered("look", said));
 
-    let (kind, n) = (1 + rng.below(6) as u64, count(rng));
+    let kind = 1 + rng.below(7) as u64;
+    let n = count(rng, kind);
     let block = blocks.any(rng, kind, n);
     let length = if rng.once_in(16) { BLOCK - 1 } else { BLOCK };
     let said = boards.submit(queue, kind, n, &block[..length])?;
