@@ -1,7 +1,7 @@
 /*
- * Peng-Robinson board: densities, spinodals and critical points of blends of 1 to 8 components,
- * by the Peng-Robinson equation of state, as jobs in four queues. The functions are written in
- * Rattle and proved; this header declares them for C and C++.
+ * Peng-Robinson board: densities and spinodals of blends of 1 to 8 components, critical points of
+ * components and of blends of two, by the Peng-Robinson equation of state, as jobs in four queues.
+ * The functions are written in Rattle and proved; this header declares them for C and C++.
  *
  * Build. `rt staticlib gateway` at the project's root writes target/staticlib/libgateway.a. Then
  *
@@ -59,7 +59,7 @@ extern "C" {
 #define PR_REQUEST_BYTES 642  /* a request in a file: kind byte, N byte, block */
 #define PR_QUEUES 4           /* queues 0 to 3 */
 #define PR_QUEUE_JOBS 8       /* jobs that a queue holds, the running one included */
-#define PR_COMPONENTS_MAX 8   /* components of a blend, N: 1 to 8 */
+#define PR_COMPONENTS_MAX 8   /* components of a blend, N: 1 to 8; in kind 7 N is 2 */
 
 /*
  * Kinds of jobs: what is read of the request, and the values handed out, in the record's order.
@@ -84,14 +84,22 @@ extern "C" {
 #define PR_KIND_SPINODAL_BRANCH 4
 
 /* Critical point of one component. Choice is the component, 0 to N - 1. Reads temperature and
-   start, with which the search begins; +0 in either means none given. Hands out temperature and
-   density. */
+   start, with which the search begins; +0 in either means none given. Without a temperature 300,
+   700 and 500 K are tried in turn, without a start 0.3 of the maximum density is taken. Hands out
+   temperature and density. */
 #define PR_KIND_CRITICAL_POINT 5
 
 /* Both spinodals of one component by its stability condition. Choice is the component, 0 to N - 1.
    Reads temperature. Hands out vapour density and liquid density. Below about half of the critical
    temperature both may be the vapour's, the status being 0; kind 4 searches each branch. */
 #define PR_KIND_STABILITY_SPINODALS 6
+
+/* Critical point of a blend of two components; N is 2. Reads fractions, and temperature and start
+   as kind 5 does. Hands out temperature and density. A blend may have several critical points or
+   none; which one is found hangs on where the search begins. Both fractions have to be above 0:
+   with one of 0 the search ends with PR_REFUSED_NOT_CONVERGED, or where a temperature is given
+   with PR_REFUSED_NOT_FINITE; kind 5 has the component alone. */
+#define PR_KIND_BLEND_CRITICAL_POINT 7
 
 /*
  * Spans: the turns of its own queue that a job of a kind takes, the one that takes it in included,
@@ -104,6 +112,7 @@ extern "C" {
 #define PR_SPAN_SPINODAL_BRANCH 30
 #define PR_SPAN_CRITICAL_POINT 150
 #define PR_SPAN_STABILITY_SPINODALS 250
+#define PR_SPAN_BLEND_CRITICAL_POINT 150
 
 /* Choices of PR_KIND_DENSITY, and the first two of PR_KIND_SPINODAL_BRANCH. */
 #define PR_CHOICE_VAPOR 0
@@ -116,8 +125,8 @@ extern "C" {
  * The caller's: returned by the functions; nothing changes.
  */
 #define PR_REFUSED_QUEUE 1           /* queue above 3 */
-#define PR_REFUSED_KIND 2            /* kind not 1 to 6 */
-#define PR_REFUSED_COMPONENTS 3      /* N not 1 to 8 */
+#define PR_REFUSED_KIND 2            /* kind not 1 to 7 */
+#define PR_REFUSED_COMPONENTS 3      /* N not 1 to 8; kind 7: N not 2 */
 #define PR_REFUSED_QUEUE_FULL 4      /* the queue holds eight jobs */
 #define PR_REFUSED_RECORD_LENGTH 5   /* record buffer under 64 bytes */
 #define PR_REFUSED_BOARD 6           /* board not 24,584 bytes, or a number stored in it is out of
@@ -134,15 +143,15 @@ extern "C" {
                                            positive, acentric factor or kappa not finite, a or b
                                            not finite and positive */
 #define PR_REFUSED_INTERACTIONS 13      /* an interaction not finite */
-#define PR_REFUSED_FRACTIONS 14         /* kinds 1 to 4: a fraction not finite or with a minus
-                                           sign, -0 included */
+#define PR_REFUSED_FRACTIONS 14         /* kinds 1 to 4 and 7: a fraction not finite or with a
+                                           minus sign, -0 included */
 #define PR_REFUSED_CONDITIONS 15        /* a temperature that is read not finite and positive
-                                           (kind 5: nor +0), or a pressure or start that is read
-                                           not finite */
-#define PR_REFUSED_CHOICE 16            /* choice out of the kind's range, or maximum density not
-                                           finite and positive */
-#define PR_REFUSED_SUM_OF_FRACTIONS 17  /* kinds 1 to 4: the fractions' sum, in floats from the
-                                           first on, differs from 1 by more than 1e-9 */
+                                           (kinds 5 and 7: nor +0), or a pressure or start that
+                                           is read not finite */
+#define PR_REFUSED_CHOICE 16            /* choice that is read out of the kind's range, or maximum
+                                           density not finite and positive */
+#define PR_REFUSED_SUM_OF_FRACTIONS 17  /* kinds 1 to 4 and 7: the fractions' sum, in floats from
+                                           the first on, differs from 1 by more than 1e-9 */
 
 /* The equation's: in a record's status. */
 #define PR_REFUSED_STARTING_DENSITY 21    /* starting density 0 or below, in kind 1 from vapour
@@ -157,8 +166,8 @@ extern "C" {
 #define PR_REFUSED_SUPERCRITICAL 26       /* kind 6: no spinodal found within the iterations, as
                                              above the critical temperature */
 #define PR_REFUSED_NOT_FINITE 27          /* a number that an evaluation yields, or a temperature
-                                             or density after a step, is not finite; in kinds 2, 5
-                                             and 6 a phase or trial may end so unseen */
+                                             or density after a step, is not finite; in kinds 2 and
+                                             5 to 7 a phase or trial may end so unseen */
 
 /*
  * Record: offsets of its numbers. Bytes 0 to 15 are public, 16 to 63 sealed.

@@ -36,7 +36,7 @@ static void check_number(uint64_t got, uint64_t wanted, const char *what, const 
 #define ANSWERS(call, wanted) check_number(call, wanted, #call, where, __LINE__)
 #define LENGTH(list) (sizeof(list) / sizeof *(list))
 
-#define KINDS PR_KIND_STABILITY_SPINODALS
+#define KINDS PR_KIND_BLEND_CRITICAL_POINT
 #define INTERACTIONS_MAX (PR_COMPONENTS_MAX * (PR_COMPONENTS_MAX - 1) / 2)
 
 /* Buffers are longer than they have to be: lengths that are right when cut to 16 bits, and bytes that must stay. */
@@ -51,6 +51,8 @@ static const uint64_t bad_kinds[] = {
     0, KINDS + 1, 255, 257, 65537, BEYOND_32_BITS + 1, BEYOND_63_BITS + 1, UINT64_MAX};
 static const uint64_t bad_counts[] = {
     0, PR_COMPONENTS_MAX + 1, 255, 258, 65538, BEYOND_32_BITS + 2, BEYOND_63_BITS + 2, UINT64_MAX};
+/* of PR_KIND_BLEND_CRITICAL_POINT, beside these */
+static const uint64_t not_two[] = {1, 3, 4, 5, 6, 7, PR_COMPONENTS_MAX};
 static const size_t bad_board_lengths[] = {
     0, 1, PR_BOARD_BYTES - 1, PR_BOARD_BYTES + 1, PR_BOARD_BYTES + MORE};
 static const size_t bad_block_lengths[] = {
@@ -297,6 +299,14 @@ static void writer_lengths_and_counts(void)
         struct filing f = blend(PR_KIND_DENSITY);
         f.n = bad_counts[i];
         refused(&f, PR_REFUSED_COMPONENTS, where);
+        f.kind = PR_KIND_BLEND_CRITICAL_POINT;
+        refused(&f, PR_REFUSED_COMPONENTS, where);
+    }
+    for (size_t i = 0; i < LENGTH(not_two); i++) {
+        struct filing f = equal_parts_of_propane(PR_KIND_BLEND_CRITICAL_POINT, not_two[i]);
+        refused(&f, PR_REFUSED_COMPONENTS, where);
+        f.kind = PR_KIND_CRITICAL_POINT;
+        accepted(&f, where);
     }
     for (size_t i = 0; i < LENGTH(bad_block_lengths); i++) {
         struct filing f = blend(PR_KIND_DENSITY);
@@ -323,6 +333,8 @@ static void writer_lengths_and_counts(void)
             f.fractions_length = fractions[i];
             refused(&f, PR_REFUSED_PAIRS, where);
         }
+        if (kind == PR_KIND_BLEND_CRITICAL_POINT)
+            continue;
         /* one component: an empty list of interactions, which write_block passes as NULL */
         struct filing one = equal_parts_of_propane(kind, 1);
         one.choice = 1;
@@ -376,7 +388,7 @@ static void data_numbers(void)
             refused(&f, PR_REFUSED_INTERACTIONS, where);
         }
         /* kinds 5 and 6 read no fractions */
-        const int reads_fractions = kind <= PR_KIND_SPINODAL_BRANCH;
+        const int reads_fractions = kind != PR_KIND_CRITICAL_POINT && kind != PR_KIND_STABILITY_SPINODALS;
         static const double bad_fractions[] = {NAN, INFINITY, -INFINITY, -0.0, -0.4};
         for (size_t i = 0; i < 2 * LENGTH(bad_fractions); i++) {
             f = good;
@@ -404,10 +416,11 @@ static void data_conditions(void)
     const char *where = "data: conditions";
     for (uint64_t kind = 1; kind <= KINDS; kind++) {
         struct filing good = blend(kind), f;
+        const int of_critical_points = kind == PR_KIND_CRITICAL_POINT || kind == PR_KIND_BLEND_CRITICAL_POINT;
         for (size_t i = 0; i < LENGTH(not_positive); i++) {
             f = good;
             f.temperature = not_positive[i];
-            if (kind == PR_KIND_CRITICAL_POINT && bits_of(not_positive[i]) == 0)
+            if (of_critical_points && bits_of(not_positive[i]) == 0)
                 accepted(&f, where); /* +0: none given */
             else
                 refused(&f, PR_REFUSED_CONDITIONS, where);
@@ -421,7 +434,7 @@ static void data_conditions(void)
                 accepted(&f, where);
             f = good;
             f.start = not_finite[i];
-            if (kind == PR_KIND_PRESSURE_SPINODAL || kind == PR_KIND_CRITICAL_POINT)
+            if (kind == PR_KIND_PRESSURE_SPINODAL || of_critical_points)
                 refused(&f, PR_REFUSED_CONDITIONS, where);
             else
                 accepted(&f, where);
@@ -430,13 +443,14 @@ static void data_conditions(void)
                 refused(&f, PR_REFUSED_CONDITIONS, where);
             }
         }
-        /* the first choice out of range; kinds 2 and 3 read none */
+        /* the first choice out of range; kinds 2, 3 and 7 read none */
         uint64_t choices = kind == PR_KIND_DENSITY ? PR_CHOICE_START + 1 : 2;
         const uint64_t bad_choices[] = {choices, 255, 256, 65536, BEYOND_32_BITS, BEYOND_63_BITS, UINT64_MAX};
         for (size_t i = 0; i < LENGTH(bad_choices); i++) {
             f = good;
             f.choice = bad_choices[i];
-            if (kind == PR_KIND_STABLE_DENSITY || kind == PR_KIND_PRESSURE_SPINODAL)
+            if (kind == PR_KIND_STABLE_DENSITY || kind == PR_KIND_PRESSURE_SPINODAL
+                || kind == PR_KIND_BLEND_CRITICAL_POINT)
                 accepted(&f, where);
             else
                 refused(&f, PR_REFUSED_CHOICE, where);
@@ -446,10 +460,12 @@ static void data_conditions(void)
             f.choice = choice;
             accepted(&f, where);
         }
-        /* a co-volume so small that the maximum density overflows */
-        f = equal_parts_of_propane(kind, 1);
-        f.coefficients[0] = 1e-8;
-        f.coefficients[1] = 1e307;
+        /* co-volumes so small that the maximum density overflows */
+        f = equal_parts_of_propane(kind, 2);
+        for (size_t c = 0; c < 2; c++) {
+            f.coefficients[3 * c] = 1e-8;
+            f.coefficients[3 * c + 1] = 1e307;
+        }
         refused(&f, PR_REFUSED_CHOICE, where);
     }
     struct filing start_of_zero = blend(PR_KIND_PRESSURE_SPINODAL);
@@ -532,10 +548,13 @@ static void block_pairs(void)
                 ANSWERS(status_of(kind, f.n, packed, PR_RECORD_BYTES, where), PR_REFUSED_PAIRS);
             }
         }
-        /* the right block for another N; a block of zeros */
+        /* a block of zeros; the right block for another N, which PR_KIND_BLEND_CRITICAL_POINT has not */
+        memset(packed, 0, sizeof packed);
+        ANSWERS(status_of(kind, f.n, packed, PR_RECORD_BYTES, where), PR_REFUSED_PAIRS);
+        if (kind == PR_KIND_BLEND_CRITICAL_POINT)
+            continue;
         ANSWERS(status_of(kind, 1, good, PR_RECORD_BYTES, where), PR_REFUSED_PAIRS);
         ANSWERS(status_of(kind, 3, good, PR_RECORD_BYTES, where), PR_REFUSED_PAIRS);
-        memset(packed, 0, sizeof packed);
         for (uint64_t n = 1; n <= PR_COMPONENTS_MAX; n++)
             ANSWERS(status_of(kind, n, packed, PR_RECORD_BYTES, where), PR_REFUSED_PAIRS);
     }
@@ -550,6 +569,9 @@ static void answer_calls(void)
         answer_refused(bad_kinds[i], 2, PR_BLOCK_BYTES, PR_RECORD_BYTES, PR_REFUSED_KIND, where);
     for (size_t i = 0; i < LENGTH(bad_counts); i++)
         answer_refused(PR_KIND_DENSITY, bad_counts[i], PR_BLOCK_BYTES, PR_RECORD_BYTES, PR_REFUSED_COMPONENTS, where);
+    for (size_t i = 0; i < LENGTH(not_two); i++)
+        answer_refused(PR_KIND_BLEND_CRITICAL_POINT, not_two[i], PR_BLOCK_BYTES, PR_RECORD_BYTES,
+                       PR_REFUSED_COMPONENTS, where);
     for (size_t i = 0; i < LENGTH(bad_block_lengths); i++)
         answer_refused(PR_KIND_DENSITY, 2, bad_block_lengths[i], PR_RECORD_BYTES, PR_REFUSED_BLOCK_LENGTH, where);
     for (size_t i = 0; i < LENGTH(bad_record_lengths); i++)
@@ -607,6 +629,8 @@ static void submit_calls(void)
         submit_refused(all, 0, bad_kinds[i], 2, PR_BLOCK_BYTES, PR_REFUSED_KIND, where);
     for (size_t i = 0; i < LENGTH(bad_counts); i++)
         submit_refused(all, 0, PR_KIND_DENSITY, bad_counts[i], PR_BLOCK_BYTES, PR_REFUSED_COMPONENTS, where);
+    for (size_t i = 0; i < LENGTH(not_two); i++)
+        submit_refused(all, 0, PR_KIND_BLEND_CRITICAL_POINT, not_two[i], PR_BLOCK_BYTES, PR_REFUSED_COMPONENTS, where);
     for (size_t i = 0; i < LENGTH(bad_block_lengths); i++)
         submit_refused(all, 0, PR_KIND_DENSITY, 2, bad_block_lengths[i], PR_REFUSED_BLOCK_LENGTH, where);
 
@@ -614,8 +638,9 @@ static void submit_calls(void)
     where = "submit: a full queue";
     for (uint64_t queue = 0; queue < PR_QUEUES; queue++) {
         for (uint64_t job = 0; job < PR_QUEUE_JOBS; job++) {
+            const uint64_t kind = job % KINDS + 1;
             memset(block, (int)(0x11 * job), PR_BLOCK_BYTES);
-            submit(queue, job % KINDS + 1, job + 1, job, where);
+            submit(queue, kind, kind == PR_KIND_BLEND_CRITICAL_POINT ? 2 : job + 1, job, where);
         }
         submit_refused(all, queue, PR_KIND_DENSITY, 2, PR_BLOCK_BYTES, PR_REFUSED_QUEUE_FULL, where);
     }
