@@ -30,6 +30,8 @@ pub enum Kind {
     /// Both limits of stability of one component at a temperature: vapour density, liquid density. Below about half
     /// of the critical temperature both may be the vapour's; [`SpinodalBranch`](Kind::SpinodalBranch) searches each.
     StabilitySpinodals,
+    /// Critical point of a blend of two components: temperature, density.
+    BlendCriticalPoint,
 }
 
 impl Kind {
@@ -41,6 +43,7 @@ impl Kind {
         Kind::SpinodalBranch,
         Kind::CriticalPoint,
         Kind::StabilitySpinodals,
+        Kind::BlendCriticalPoint,
     ];
 
     /// The kind's number in requests and records.
@@ -57,7 +60,7 @@ impl Kind {
             Kind::Density => 3_101,
             Kind::StableDensity => 6_204,
             Kind::PressureSpinodal | Kind::SpinodalBranch => 30,
-            Kind::CriticalPoint => 150,
+            Kind::CriticalPoint | Kind::BlendCriticalPoint => 150,
             Kind::StabilitySpinodals => 250,
         }
     }

@@ -8,13 +8,13 @@ use std::fmt;
 #[derive(Clone, Copy, Debug, Default, PartialEq)]
 pub struct Conditions {
     /// Kind 1: 0 vapour, 1 liquid, 2 start. Kind 4: 0 vapour, 1 liquid. Kinds 5 and 6: the component, from 0.
-    /// Kinds 2 and 3 do not use it.
+    /// Kinds 2, 3 and 7 do not use it.
     pub choice: u64,
-    /// Temperature, K. Kind 5: +0 where none is given.
+    /// Temperature, K. Kinds 5 and 7: +0 where none is given.
     pub temperature: f64,
     /// Pressure, K/Å³. Kinds 1 and 2.
     pub pressure: f64,
-    /// Starting density, 1/Å³. Kind 1 with choice 2, kind 3, and kind 5: there +0 where none is given.
+    /// Starting density, 1/Å³. Kind 1 with choice 2, kind 3, and kinds 5 and 7: there +0 where none is given.
     pub start: f64,
 }
 
@@ -54,11 +54,12 @@ impl Request {
     /// or not.
     ///
     /// Refused by the first of these, in this order:
-    /// - [`Refusal::Components`] (3): the blend has none or more than 8;
+    /// - [`Refusal::Components`] (3): the blend has none or more than 8, or in kind 7 not 2;
     /// - [`Pairs`](Refusal::Pairs) (11): interactions or fractions of a length that does not fit the components;
     /// - [`Coefficients`](Refusal::Coefficients) (12), in any component, used or not;
     /// - [`Interactions`](Refusal::Interactions) (13);
-    /// - [`Fractions`](Refusal::Fractions) (14) and [`SumOfFractions`](Refusal::SumOfFractions) (17), kinds 1 to 4;
+    /// - in kinds 1 to 4 and 7 [`Fractions`](Refusal::Fractions) (14) and
+    ///   [`SumOfFractions`](Refusal::SumOfFractions) (17);
     /// - [`Conditions`](Refusal::Conditions) (15), of those that the kind uses;
     /// - [`Choice`](Refusal::Choice) (16).
     ///
@@ -167,6 +168,43 @@ impl Request {
     pub fn stability_spinodals(blend: &Blend, component: u64, temperature: f64) -> Result<Request, Refusal> {
         let conditions = Conditions { choice: component, temperature, ..Conditions::default() };
         Request::new(Kind::StabilitySpinodals, blend, conditions)
+    }
+
+    /// Kind 7: the critical point of a blend of two components, searched from a temperature and a density where they
+    /// are given. `Some(0.0)` is the same as `None`. A blend may have several critical points or none; which one is
+    /// found hangs on where the search begins.
+    ///
+    /// Refused as [`new`](Request::new) says. A fraction of 0 is not, and ends the job with
+    /// [`Refusal::NotConverged`] (22), or with [`NotFinite`](Refusal::NotFinite) (27) where a temperature is given;
+    /// [`critical_point`](Request::critical_point) has the component alone.
+    ///
+    /// ```
+    /// use peng_robinson_board::{answer, Blend, Component, Refusal, Request};
+    ///
+    /// let (propane, butane) = (Component::new(369.83, 4.248e6, 0.1523), Component::new(425.12, 3.796e6, 0.2002));
+    /// let blend = Blend { components: vec![propane, butane], interactions: vec![0.003], fractions: vec![0.6, 0.4] };
+    /// let request = Request::blend_critical_point(&blend, None, None)?;
+    /// let [temperature, density, _] = answer(&request)?.outcome()?;
+    /// assert_eq!(temperature.to_bits(), 0x4078BA68707F3DA1); // 395.65 K
+    /// assert_eq!(density.to_bits(), 0x3F643FA92CC972D9); // 0.00247 molecules per cubic angstrom
+    ///
+    /// // between those of its components
+    /// let alone = |component| answer(&Request::critical_point(&blend, component, None, None)?)?.outcome();
+    /// let ([lower, ..], [upper, ..]) = (alone(0)?, alone(1)?);
+    /// assert!(lower < temperature && temperature < upper);
+    ///
+    /// // of two components and no others
+    /// assert_eq!(Request::blend_critical_point(&Blend::pure(propane), None, None), Err(Refusal::Components));
+    /// # Ok::<(), Refusal>(())
+    /// ```
+    pub fn blend_critical_point(
+        blend: &Blend,
+        temperature: Option<f64>,
+        start: Option<f64>,
+    ) -> Result<Request, Refusal> {
+        let (temperature, start) = (temperature.unwrap_or(0.0), start.unwrap_or(0.0));
+        let conditions = Conditions { temperature, start, ..Conditions::default() };
+        Request::new(Kind::BlendCriticalPoint, blend, conditions)
     }
 
     /// The request of 642 bytes: kind, number of components, block.

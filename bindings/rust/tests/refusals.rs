@@ -3,7 +3,7 @@
 
 mod common;
 
-use common::{damaged_board, propane, propane_butane, Numbers};
+use common::{damaged_board, eight_components, propane, propane_butane, Numbers};
 use peng_robinson_board::DensityInitialization::{InitialDensity, Liquid};
 use peng_robinson_board::*;
 
@@ -43,11 +43,15 @@ fn submit_tests_6_1_2_3_8_4() {
     for queue in [4, 1 << 8, 1 << 32, u64::MAX] {
         refused(full_board(), queue, 0, 0, 0, Refusal::Queue);
     }
-    for kind in [0, 7, 1 + (1 << 8), 1 + (1 << 32), u64::MAX] {
+    for kind in [0, 8, 1 + (1 << 8), 7 + (1 << 32), u64::MAX] {
         refused(full_board(), 0, kind, 0, 0, Refusal::Kind);
     }
-    for n in [0, 9, 1 + (1 << 8), 1 + (1 << 32), u64::MAX] {
+    for n in [0, 9, 1 + (1 << 8), 2 + (1 << 32), u64::MAX] {
         refused(full_board(), 0, 3, n, 0, Refusal::Components);
+        refused(full_board(), 0, 7, n, 0, Refusal::Components);
+    }
+    for n in [1, 3, 4, 5, 6, 7, 8] {
+        refused(full_board(), 0, 7, n, 640, Refusal::Components);
     }
     for length in [0, 639, 641, 65_536 + 640] {
         refused(full_board(), 0, 3, 1, length, Refusal::BlockLength);
@@ -56,6 +60,7 @@ fn submit_tests_6_1_2_3_8_4() {
     // with nothing wrong: N of 8 and any block, on a queue with a place
     let mut board = full_board();
     assert_eq!(board.submit_block(3, 6, 8, &[0xA5; 640]), Ok(Ticket { queue: 3, number: 0 }));
+    assert_eq!(board.submit_block(3, 7, 2, &[0xA5; 640]), Ok(Ticket { queue: 3, number: 1 }));
 }
 
 #[test]
@@ -72,7 +77,9 @@ fn submit_refuses_requests_of_any_bytes_alike() {
     assert_eq!(board.submit(0, &request(255, 9)), Err(Refusal::Kind));
     assert_eq!(board.submit(0, &request(3, 0)), Err(Refusal::Components));
     assert_eq!(board.submit(0, &request(3, 9)), Err(Refusal::Components));
-    assert_eq!(answer(&request(7, 0)), Err(Refusal::Kind));
+    assert_eq!(board.submit(0, &request(7, 1)), Err(Refusal::Components));
+    assert_eq!(answer(&request(8, 0)), Err(Refusal::Kind));
+    assert_eq!(answer(&request(7, 1)), Err(Refusal::Components));
     assert_eq!(answer(&request(3, 255)), Err(Refusal::Components));
     assert_eq!(board, fresh);
 }
@@ -145,11 +152,14 @@ fn answer_tests_2_3_8_5() {
         assert_eq!(answer_block(kind, n, &vec![0; block], &mut buffer), Err(expected));
         assert!(buffer.iter().all(|byte| *byte == 0xA5), "{expected}");
     };
-    for kind in [0, 7, u64::MAX] {
+    for kind in [0, 8, u64::MAX] {
         refused(kind, 0, 0, 0, Refusal::Kind);
     }
     for n in [0, 9, u64::MAX] {
         refused(1, n, 0, 0, Refusal::Components);
+    }
+    for n in [0, 1, 3, 8, 9, u64::MAX] {
+        refused(7, n, 0, 0, Refusal::Components);
     }
     for length in [0, 639, 641] {
         refused(1, 1, length, 0, Refusal::BlockLength);
@@ -265,6 +275,32 @@ fn sums_of_fractions() {
         assert!(Request::critical_point(&blend, 0, None, None).is_ok());
         assert!(Request::stability_spinodals(&blend, 0, 300.0).is_ok());
     }
+    let of_two = |fractions: [f64; 2]| {
+        let blend = Blend { fractions: fractions.to_vec(), ..propane_butane() };
+        Request::blend_critical_point(&blend, None, None)
+    };
+    for fractions in [[0.6, 0.4], [0.6, 0.4 + 0.9e-9], [0.6, 0.4 - 0.9e-9], [1.0, 0.0]] {
+        assert!(of_two(fractions).is_ok());
+    }
+    for fractions in [[60.0, 40.0], [0.6, 0.4 + 1.1e-9], [0.6, 0.4 - 1.1e-9], [0.0, 0.0]] {
+        assert_eq!(of_two(fractions), Err(Refusal::SumOfFractions));
+    }
+    for fractions in [[1.4, -0.4], [1.0, -0.0], [f64::NAN, 0.4], [0.6, f64::INFINITY]] {
+        assert_eq!(of_two(fractions), Err(Refusal::Fractions));
+    }
+}
+
+/// Kind 7 is for two components, and 3 comes before whatever else is wrong with the blend.
+#[test]
+fn the_critical_point_of_a_blend_is_for_two_components() {
+    let unfit = |n| {
+        let components = vec![Component::new(f64::NAN, f64::NAN, f64::NAN); n];
+        Blend { components, interactions: Vec::new(), fractions: Vec::new() }
+    };
+    for blend in [propane(), eight_components(), unfit(0), unfit(1), unfit(3), unfit(9)] {
+        assert_eq!(Request::blend_critical_point(&blend, None, None), Err(Refusal::Components));
+    }
+    assert_eq!(Request::blend_critical_point(&unfit(2), None, None), Err(Refusal::Pairs));
 }
 
 /// What each maker of requests uses of its arguments, and what it refuses of them.
@@ -278,6 +314,7 @@ fn conditions_that_are_used() {
         assert_eq!(Request::stable_density(&blend, 300.0, odd), refused);
         assert_eq!(Request::pressure_spinodal(&blend, 300.0, odd), refused);
         assert_eq!(Request::critical_point(&blend, 0, None, Some(odd)), refused);
+        assert_eq!(Request::blend_critical_point(&blend, None, Some(odd)), refused);
     }
     for odd in [f64::NAN, f64::INFINITY, -300.0, -0.0] {
         assert_eq!(Request::density(&blend, odd, 0.05, Liquid), refused);
@@ -286,13 +323,21 @@ fn conditions_that_are_used() {
         assert_eq!(Request::spinodal_branch(&blend, odd, Phase::Liquid), refused);
         assert_eq!(Request::critical_point(&blend, 0, Some(odd), None), refused);
         assert_eq!(Request::stability_spinodals(&blend, 0, odd), refused);
+        assert_eq!(Request::blend_critical_point(&blend, Some(odd), None), refused);
     }
-    // +0 is a temperature of kind 5's only, where it is none
+    // +0 is a temperature in kinds 5 and 7 only, where it is none
     assert_eq!(Request::stability_spinodals(&blend, 0, 0.0), refused);
     assert_eq!(
         Request::critical_point(&blend, 0, Some(0.0), Some(0.0)),
         Request::critical_point(&blend, 0, None, None)
     );
+    assert_eq!(
+        Request::blend_critical_point(&blend, Some(0.0), Some(0.0)),
+        Request::blend_critical_point(&blend, None, None)
+    );
+    // kind 7 uses neither choice nor pressure
+    let odd = Conditions { choice: u64::MAX, pressure: f64::NAN, ..Conditions::default() };
+    assert!(Request::new(Kind::BlendCriticalPoint, &blend, odd).is_ok());
     for component in [2, 8, u64::MAX] {
         assert_eq!(Request::critical_point(&blend, component, None, None), Err(Refusal::Choice));
         assert_eq!(Request::stability_spinodals(&blend, component, 300.0), Err(Refusal::Choice));

@@ -3,7 +3,7 @@
 
 mod common;
 
-use common::{eight_components, propane, propane_butane, Numbers};
+use common::{eight_components, propane, propane_butane, Numbers, PROPANE};
 use peng_robinson_board::DensityInitialization::{InitialDensity, Liquid, Vapor};
 use peng_robinson_board::*;
 use std::io::Write;
@@ -14,6 +14,11 @@ use std::process::{Command, Stdio};
 #[rustfmt::skip]
 fn cases() -> Vec<(Request, &'static str)> {
     let (pure, two, eight) = (propane(), propane_butane(), eight_components());
+    // one component under two names: the critical point is its own
+    let alike = Blend { components: vec![PROPANE; 2], interactions: vec![0.0], fractions: vec![0.5; 2] };
+    // an interaction of 2 makes the blend's a 0
+    let repelling = Blend { interactions: vec![2.0], ..alike.clone() };
+    let without_butane = Blend { fractions: vec![1.0, 0.0], ..propane_butane() };
     let cases = [
         (Request::density(&two, 300.0, 0.05, Liquid), "1 0 3F7B5EDAFF5A36A6 0000000000000000 0000000000000000 9"),
         (Request::density(&two, 300.0, 0.02, Vapor), "1 0 3F128BAA8A86D745 0000000000000000 0000000000000000 4"),
@@ -70,6 +75,32 @@ fn cases() -> Vec<(Request, &'static str)> {
         (Request::stability_spinodals(&two, 1, 350.0), "6 0 3F4A98AA3FAE44DC 3F70D5BA291BDF4F 0000000000000000 20"),
         (Request::stability_spinodals(&eight, 2, 300.0), "6 0 3F50CDB880EB94A5 3F75D75D1A2D8EAF 0000000000000000 19"),
         (Request::stability_spinodals(&pure, 0, 400.0), "6 26 0000000000000000 0000000000000000 0000000000000000 55"),
+        (Request::blend_critical_point(&two, None, None), "7 0 4078BA68707F3DA1 3F643FA92CC972D9 0000000000000000 5"),
+        (
+            Request::blend_critical_point(&two, Some(350.0), Some(0.002)),
+            "7 0 4078BA68707F3D9C 3F643FA92CC972CE 0000000000000000 5",
+        ),
+        (
+            Request::blend_critical_point(&two, None, Some(0.002)),
+            "7 0 4078BA68707F3D9D 3F643FA92CC972C5 0000000000000000 6",
+        ),
+        (Request::blend_critical_point(&alike, None, None), "7 0 40771D213CEC8CA7 3F662B76C42F98D7 0000000000000000 5"),
+        (
+            Request::blend_critical_point(&two, Some(5000.0), None),
+            "7 22 0000000000000000 0000000000000000 0000000000000000 50",
+        ),
+        (
+            Request::blend_critical_point(&repelling, Some(300.0), None),
+            "7 23 0000000000000000 0000000000000000 0000000000000000 1",
+        ),
+        (
+            Request::blend_critical_point(&without_butane, None, None),
+            "7 22 0000000000000000 0000000000000000 0000000000000000 3",
+        ),
+        (
+            Request::blend_critical_point(&without_butane, Some(350.0), None),
+            "7 27 0000000000000000 0000000000000000 0000000000000000 1",
+        ),
     ];
     let made = cases.into_iter().map(|(request, line)| (request.expect(line), line));
     let mut cases: Vec<_> = made.collect();
@@ -134,6 +165,10 @@ fn written_blocks_are_packed_from_16() {
         assert_eq!(bytes[2..], request.block()[..]);
         assert_eq!(Request::from_bytes(&bytes), Ok(request));
     }
+    let blend = propane_butane();
+    let request = Request::blend_critical_point(&blend, Some(350.0), Some(0.002)).unwrap();
+    assert_eq!((request.kind(), request.components()), (7, 2));
+    assert_eq!(*request.block(), Numbers::of(&blend, 0, 350.0, 0.0, 0.002).block());
 }
 
 /// The sealed bytes of `answer_block`; bytes 0 to 15 and those from 64 on stay.
@@ -144,13 +179,19 @@ fn sealed_bytes(request: &Request) -> Vec<u8> {
     buffer[16..64].to_vec()
 }
 
-/// All cases at once on one board, eight in a queue.
+/// As many cases on one board as its queues hold, eight in each.
 #[test]
 fn the_board_hands_out_what_answer_gives() {
+    for cases in cases().chunks(4 * 8) {
+        come_out_of_one_board(cases);
+    }
+}
+
+fn come_out_of_one_board(cases: &[(Request, &str)]) {
     let mut board = Board::new();
     let mut waiting = Vec::new();
-    for (i, (request, expected)) in cases().into_iter().enumerate() {
-        let ticket = board.submit(i as u64 % QUEUES, &request).expect(expected);
+    for (i, (request, expected)) in cases.iter().enumerate() {
+        let ticket = board.submit(i as u64 % QUEUES, request).expect(expected);
         waiting.push((ticket, request, expected));
     }
     // no queue takes longer than eight jobs of the longest span
@@ -161,14 +202,34 @@ fn the_board_hands_out_what_answer_gives() {
         let at = waiting.iter().position(|(ticket, ..)| *ticket == record.ticket());
         let (_, request, expected) = waiting.remove(at.expect("a ticket that was given"));
         assert_eq!(record.kind().map(Kind::number), Ok(request.kind()));
-        assert_eq!(line(request.kind(), &record.sealed()), expected);
-        assert_eq!(record.as_bytes()[16..], sealed_bytes(&request), "{expected}");
+        assert_eq!(line(request.kind(), &record.sealed()), *expected);
+        assert_eq!(record.as_bytes()[16..], sealed_bytes(request), "{expected}");
         assert_eq!(record.as_bytes()[56..], [0; 8], "{expected}");
         assert_eq!(record.public(), &record.as_bytes()[..16]);
         assert_eq!(record.public()[10..], [0; 6]);
-        assert_eq!(record.sealed(), answer(&request).unwrap());
+        assert_eq!(record.sealed(), answer(request).unwrap());
     }
     assert!(waiting.is_empty());
+}
+
+/// Propane and butane in any proportion have their critical temperature between those of the two, the higher the more
+/// butane there is.
+#[test]
+fn critical_temperatures_of_blends_lie_between_those_of_their_components() {
+    let temperature = |request: Result<Request, Refusal>| {
+        let [temperature, ..] = answer(&request.unwrap()).unwrap().outcome().unwrap();
+        temperature
+    };
+    let of_alone = |component| temperature(Request::critical_point(&propane_butane(), component, None, None));
+    let mut line = vec![of_alone(0)];
+    for butane in 1..20 {
+        let butane = f64::from(butane) / 20.0;
+        let blend =
+            Blend { fractions: vec![1.0 - butane, butane], interactions: vec![0.0], ..propane_butane() };
+        line.push(temperature(Request::blend_critical_point(&blend, None, None)));
+    }
+    line.push(of_alone(1));
+    assert!(line.is_sorted_by(|lower, upper| lower < upper), "{line:?}");
 }
 
 /// The densities that `oracle --trace` printed for the first case, evaluation by evaluation.
