@@ -34,8 +34,8 @@ def real(text: str) -> float:
         raise argparse.ArgumentTypeError(f"{text!r} is no number") from None
 
 
-def temperature_argument(parser: argparse.ArgumentParser, required: bool = True, what: str = "temperature") -> None:
-    parser.add_argument("--temperature", type=real, required=required, metavar="K", help=f"{what} in K")
+def temperature_argument(parser: argparse.ArgumentParser) -> None:
+    parser.add_argument("--temperature", type=real, required=True, metavar="K", help="temperature in K")
 
 
 def pressure_argument(parser: argparse.ArgumentParser) -> None:
@@ -59,24 +59,15 @@ def density_search_arguments(parser: argparse.ArgumentParser) -> None:
     begin.add_argument("--start", type=real, metavar="DENSITY", help="a density in mol/m^3 that the search begins at")
 
 
-def component_argument(parser: argparse.ArgumentParser) -> None:
-    """One pure component; more words are taken, to say that it is one."""
-    parser.add_argument(
-        "components",
-        nargs="+",
-        metavar="COMPONENT",
-        help="a name of the table (prboard components) or NAME:TC:PC:OMEGA, critical values in K and Pa",
-    )
-
-
-def blend_arguments(parser: argparse.ArgumentParser) -> None:
+def blend_arguments(
+    parser: argparse.ArgumentParser, fractions: str = "and its mole fraction, which one component alone may leave out"
+) -> None:
     """The words COMPONENT=FRACTION and the option --kij."""
     parser.add_argument(
         "components",
         nargs="+",
         metavar="COMPONENT=FRACTION",
-        help="a name of the table (prboard components) or NAME:TC:PC:OMEGA, critical values in K and Pa, "
-        "and its mole fraction, which one component alone may leave out",
+        help=f"a name of the table (prboard components) or NAME:TC:PC:OMEGA, critical values in K and Pa, {fractions}",
     )
     parser.add_argument(
         "--kij",

@@ -99,3 +99,12 @@ def stability_spinodals(component: Component, temperature: float) -> StabilitySp
     temperature both may be the vapour's; `spinodal` searches each branch."""
     record, (vapor, liquid) = _answered(Request.stability_spinodals(component, temperature))
     return StabilitySpinodals(vapor, liquid, record.evaluations, record)
+
+
+def blend_critical_point(
+    blend: Blend, temperature: Optional[float] = None, start: Optional[float] = None
+) -> CriticalPoint:
+    """Critical point of a blend of two components, searched from a temperature and density if given (kind 7). A blend
+    may have several or none; which one is found hangs on where the search begins. Both fractions have to be above 0."""
+    record, (found, critical_density) = _answered(Request.blend_critical_point(blend, temperature, start))
+    return CriticalPoint(found, critical_density, record.evaluations, record)

@@ -10,8 +10,6 @@ from .arguments import (
     Usage,
     blend_arguments,
     blend_of,
-    component_argument,
-    component_of,
     density_search_arguments,
     phase_of,
     pressure_argument,
@@ -96,13 +94,18 @@ def spinodal_task(arguments: argparse.Namespace) -> Task:
 
 
 def critical_task(arguments: argparse.Namespace) -> Task:
-    if len(arguments.components) > 1 or "=" in arguments.components[0]:
-        raise Usage("critical takes one component, without a fraction: for blends there is no call yet")
-    component = component_of(arguments.components[0])
-    start = (arguments.temperature, arguments.start)
-    job = Job(Kind.CRITICAL_POINT, None, lambda: Request.critical_point(component, *start))
+    alone = len(arguments.components) == 1
+    for word in arguments.components:
+        if ("=" in word) == alone:
+            has = "a fraction" if alone else "no fraction"
+            raise Usage(f"{word!r} has {has}: critical takes one component without, or two with their mole fractions")
+    blend, start = blend_of(arguments), (arguments.temperature, arguments.start)
+    if alone:
+        job = Job(Kind.CRITICAL_POINT, None, lambda: Request.critical_point(blend.components[0], *start))
+    else:
+        job = Job(Kind.BLEND_CRITICAL_POINT, None, lambda: Request.blend_critical_point(blend, *start))
     # 0 is none given
-    given = _conditions(Blend.pure(component), None, None, arguments.start or None)
+    given = _conditions(blend, None, None, arguments.start or None)
     if arguments.temperature:
         given.insert(1, ("from temperature", f"{text(arguments.temperature)} K"))
     return Task(given, [job])
@@ -196,8 +199,10 @@ def _spinodal_arguments(parser: argparse.ArgumentParser) -> None:
 
 
 def _critical_arguments(parser: argparse.ArgumentParser) -> None:
-    component_argument(parser)
-    temperature_argument(parser, False, "temperature that the search begins at (0: none given)")
+    blend_arguments(parser, "without a fraction where it stands alone; a blend has two, with their mole fractions")
+    parser.add_argument(
+        "--temperature", type=real, metavar="K", help="temperature in K that the search begins at (0: none given)"
+    )
     parser.add_argument(
         "--start", type=real, metavar="DENSITY", help="density in mol/m^3 that the search begins at (0: none given)"
     )
@@ -208,7 +213,12 @@ CALCULATIONS: List[Tuple[str, str, Callable[..., None], Callable[..., Task]]] = 
     ("density", "density at a temperature and pressure (kind 1)", _density_arguments, density_task),
     ("stable", "density of the stable phase (kind 2)", _stable_arguments, stable_task),
     ("spinodal", "spinodals at a temperature (kinds 4, 3 and 6)", _spinodal_arguments, spinodal_task),
-    ("critical", "critical point of a component (kind 5)", _critical_arguments, critical_task),
+    (
+        "critical",
+        "critical point of a component (kind 5) or of a blend of two (kind 7)",
+        _critical_arguments,
+        critical_task,
+    ),
 ]
 
 

@@ -14,7 +14,9 @@ from .units import DENSITY, PRESSURE, TEMPERATURE
 
 Numbers = Dict[str, Any]
 
-NO_CRITICAL_POINT = "The critical point of a blend is not shown: there is no call for it yet (kind 7, request P3)."
+NO_CRITICAL_PRESSURE = "The blend's critical point is not shown: no call gives its pressure."
+NO_CRITICAL_POINT = "The blend's critical point is not shown: kind 7 is for two components."
+CRITICAL_POINT_NOT_FOUND = "The blend's critical point is not shown: its search (kind 7) came to none."
 
 # how finely curves are drawn
 BRANCH_POINTS = 80
@@ -85,6 +87,15 @@ def _critical_point(blend: Blend) -> Optional[Numbers]:
     point = calculations.critical_point(blend.components[0])
     pressure = calculations.pressure_spinodal(blend, point.temperature, point.density).pressure
     return {"temperature": point.temperature, "pressure": pressure, "density": point.density}
+
+
+def _blend_critical_point(blend: Blend) -> Optional[Numbers]:
+    """Critical point of a blend of two (kind 7), or none where its search fails. It lies outside the spinodals of kind 4:
+    a blend comes apart into two phases before dp/drho is 0."""
+    if len(blend.components) != 2:
+        return None
+    point = _found(calculations.blend_critical_point, blend)
+    return {"temperature": point.temperature, "density": point.density} if point is not None else None
 
 
 def _highest_spinodal_temperature(blend: Blend) -> float:
@@ -183,7 +194,7 @@ def isotherms(blend: Blend, temperatures: Iterable[float], highest_pressure: Opt
     # what is no pressure at all is refused by its number
     Request.density(blend, top, highest, "liquid")
 
-    notes = [] if critical else [NO_CRITICAL_POINT]
+    notes = [] if critical else [NO_CRITICAL_PRESSURE]
     drawn: List[Numbers] = []
     for temperature in sorted(set(temperatures)):
         both = _both_spinodals(blend, temperature)
@@ -214,7 +225,8 @@ def isotherms(blend: Blend, temperatures: Iterable[float], highest_pressure: Opt
 
 
 def dome(blend: Blend, lowest_temperature: Optional[float] = None) -> Numbers:
-    """Both spinodals over temperature by kind 4, and of a single component also by kind 6."""
+    """Both spinodals over temperature by kind 4, of a single component also by kind 6; the critical point of a blend of
+    two by kind 7."""
     critical = _critical_point(blend)
     top = critical["temperature"] if critical else _highest_spinodal_temperature(blend)
     lowest = 0.5 * top if lowest_temperature is None else lowest_temperature
@@ -225,7 +237,10 @@ def dome(blend: Blend, lowest_temperature: Optional[float] = None) -> Numbers:
     curve = _spinodal_curve(blend, lowest, top)
     if not curve:
         raise Usage("nothing to draw: no spinodal search (kind 4) converged")
-    notes = [] if critical else [NO_CRITICAL_POINT]
+    notes = []
+    of_blend = _blend_critical_point(blend)
+    if not critical and not of_blend:
+        notes.append(CRITICAL_POINT_NOT_FOUND if len(blend.components) == 2 else NO_CRITICAL_POINT)
     if len(curve) < DOME_POINTS:
         notes.append(f"{DOME_POINTS - len(curve)} temperatures are left out: a spinodal search fails there.")
     stability = []
@@ -247,6 +262,7 @@ def dome(blend: Blend, lowest_temperature: Optional[float] = None) -> Numbers:
         "stability_spinodals": stability,
         "largest_difference": max((point["difference"] for point in stability), default=None),
         "critical_point": critical,
+        "blend_critical_point": of_blend,
         "notes": notes,
     }
 

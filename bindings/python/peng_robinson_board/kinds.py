@@ -1,4 +1,4 @@
-"""Kinds of jobs: their numbers, their spans in turns, and the values that each hands out (document 01)."""
+"""Kinds of jobs: their numbers, their spans in turns, and the values that each hands out (documents 01 and 02)."""
 from dataclasses import dataclass
 from enum import IntEnum
 from typing import Optional, Tuple
@@ -13,6 +13,7 @@ class Kind(IntEnum):
     SPINODAL_BRANCH = 4
     CRITICAL_POINT = 5
     STABILITY_SPINODALS = 6
+    BLEND_CRITICAL_POINT = 7
 
 
 class Choice(IntEnum):
@@ -55,6 +56,7 @@ DESCRIPTIONS = {
     Kind.STABILITY_SPINODALS: Description(
         "stability spinodals", 250, (Value("vapor_density", DENSITY), Value("liquid_density", DENSITY))
     ),
+    Kind.BLEND_CRITICAL_POINT: Description("critical point of a blend", 150, (_temperature, _density)),
 }
 
 

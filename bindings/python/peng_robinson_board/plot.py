@@ -136,11 +136,15 @@ def draw_dome(figure: Any, numbers: Numbers) -> None:
             linestyle="none", marker="o", markersize=5.0, markerfacecolor="none", markeredgecolor=BLACK,
             label="stability spinodals (kind 6)", zorder=3.0,
         )
+    star, label = critical or numbers["blend_critical_point"], ""
     if critical:
+        label = f"critical point, {critical['temperature']:.2f} K, {BAR * critical['pressure']:.2f} bar (kinds 5, 3)"
+    elif star:
+        label = f"critical point of the blend, {star['temperature']:.2f} K (kind 7)"
+    if star:
         axes.plot(
-            [KMOL * critical["density"]], [critical["temperature"]], linestyle="none", marker="*", markersize=13,
-            color=VERMILION, markeredgecolor="white", markeredgewidth=0.6, zorder=4.0,
-            label=f"critical point, {critical['temperature']:.2f} K, {BAR * critical['pressure']:.2f} bar (kinds 5, 3)",
+            [KMOL * star["density"]], [star["temperature"]], linestyle="none", marker="*", markersize=13,
+            color=VERMILION, markeredgecolor="white", markeredgewidth=0.6, zorder=4.0, label=label,
         )
     axes.set_xlim(left=0.0)
     axes.margins(y=0.08)
@@ -284,7 +288,7 @@ def add_parser(subparsers: Any) -> None:
     parser.add_argument(
         "--highest-pressure", type=real, metavar="PA", help="where the curves end, in Pa (1.5 times the critical one)"
     )
-    parser = add("dome", "both spinodal densities over temperature (kinds 4, 5 and 6)", _dome)
+    parser = add("dome", "both spinodal densities over temperature, the critical point (kinds 4 to 7)", _dome)
     parser.add_argument(
         "--lowest-temperature", type=real, metavar="K", help="where the dome begins, in K (half of the critical one)"
     )

@@ -36,8 +36,11 @@ class Refusal(IntEnum):
 # number: what it means, what to do
 _TEXTS = {
     Refusal.QUEUE: ("the queue is above 3", "name a queue from 0 to 3"),
-    Refusal.KIND: ("the kind is not 1 to 6", "name a kind from 1 to 6"),
-    Refusal.COMPONENTS: ("the number of components is not 1 to 8", "give 1 to 8 components"),
+    Refusal.KIND: ("the kind is not 1 to 7", "name a kind from 1 to 7"),
+    Refusal.COMPONENTS: (
+        "the number of components is not 1 to 8, or not 2 in kind 7, the critical point of a blend",
+        "give 1 to 8 components, and for a critical point one (kind 5) or a blend of two (kind 7)",
+    ),
     Refusal.QUEUE_FULL: (
         "the queue holds eight jobs",
         "take turns until the queue's oldest job has come out, then submit again",
@@ -85,7 +88,8 @@ _TEXTS = {
     ),
     Refusal.NOT_CONVERGED: (
         "the search did not converge within its limit",
-        "begin the search elsewhere; above the critical temperature there are no spinodals to find",
+        "begin the search elsewhere; above the critical temperature there are no spinodals to find, and the critical "
+        "point of a blend (kind 7) needs both fractions above 0",
     ),
     Refusal.ITERATION_FAILED: (
         "the iteration failed",
@@ -105,7 +109,8 @@ _TEXTS = {
     ),
     Refusal.NOT_FINITE: (
         "a number that an evaluation yields, or a temperature or density after a step, is not finite",
-        "check the size of coefficients, pressure and start",
+        "check the size of coefficients, pressure and start; the critical point of a blend (kind 7) needs both "
+        "fractions above 0",
     ),
 }
 

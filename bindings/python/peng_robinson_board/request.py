@@ -82,16 +82,25 @@ class Request:
         cls, component: Component, temperature: Optional[float] = None, start: Optional[float] = None
     ) -> "Request":
         """Kind 5: the critical point of a component; the search may start from K and mol/m^3 (+0 is none given)."""
-        # +0 is how the block says that none is given
-        density = 0.0 if start is None else DENSITY.from_si(start)
-        return cls.new(
-            Kind.CRITICAL_POINT, Blend.pure(component), 0, 0.0 if temperature is None else temperature, 0.0, density
-        )
+        return cls._critical(Kind.CRITICAL_POINT, Blend.pure(component), temperature, start)
 
     @classmethod
     def stability_spinodals(cls, component: Component, temperature: float) -> "Request":
         """Kind 6: both spinodals of a component at K by its stability condition."""
         return cls.new(Kind.STABILITY_SPINODALS, Blend.pure(component), 0, temperature)
+
+    @classmethod
+    def blend_critical_point(
+        cls, blend: Blend, temperature: Optional[float] = None, start: Optional[float] = None
+    ) -> "Request":
+        """Kind 7: the critical point of a blend of two; the search may start from K and mol/m^3 (+0 is none given)."""
+        return cls._critical(Kind.BLEND_CRITICAL_POINT, blend, temperature, start)
+
+    @classmethod
+    def _critical(cls, kind: Kind, blend: Blend, temperature: Optional[float], start: Optional[float]) -> "Request":
+        # +0 is how the block says that none is given
+        density = 0.0 if start is None else DENSITY.from_si(start)
+        return cls.new(kind, blend, 0, 0.0 if temperature is None else temperature, 0.0, density)
 
     @classmethod
     def from_bytes(cls, data: bytes) -> "Request":

@@ -41,6 +41,10 @@ class Case(NamedTuple):
 LPG = ((PROPANE, BUTANE), (0.6, 0.4), (0.003,))
 PURE = ((PROPANE,), (1.0,), ())
 NATURAL_GAS = ((METHANE, NITROGEN, PROPANE), (0.9, 0.06, 0.04), (0.025, 0.014, -0.01))
+METHANE_PROPANE = ((METHANE, PROPANE), (0.5, 0.5), (0.014,))
+# one component under two names
+ALIKE = ((PROPANE, PROPANE), (0.5, 0.5), (0.0,))
+WITHOUT_BUTANE = ((PROPANE, BUTANE), (1.0, 0.0), (0.003,))
 
 # no value handed out
 NONE = " ".join(["0" * 16] * 3)
@@ -63,6 +67,11 @@ CASES = [
     Case("6 0 3F50CDB880EB94A5 3F75D75D1A2D8EAF 0000000000000000 19", 6, *PURE, 0, 300.0),
     Case("6 0 3F4A98AA3FAE44DC 3F70D5BA291BDF4F 0000000000000000 20", 6, *LPG, 1, 350.0),
     Case("5 0 40771D213CEC8CA3 3F662B76C42F98D6 0000000000000000 34", 5, *PURE, 0, 3.0, 0.0, 1e-9),
+    Case("7 0 4078BA68707F3DA1 3F643FA92CC972D9 0000000000000000 5", 7, *LPG),
+    Case("7 0 4078BA68707F3D9C 3F643FA92CC972CE 0000000000000000 5", 7, *LPG, 0, 350.0, 0.0, 0.002),
+    Case("7 0 4078BA68707F3DA1 3F643FA92CC972D9 0000000000000000 5", 7, *LPG, 2**64 - 1, 0.0, NAN),
+    Case("7 0 407411501C89CE67 3F7253400BAEFB95 0000000000000000 5", 7, *METHANE_PROPANE),
+    Case("7 0 40771D213CEC8CA7 3F662B76C42F98D7 0000000000000000 5", 7, *ALIKE),
     # refused by the data
     Case(f"1 12 {NONE} 0", 1, ((PROPANE[0], -4e6, 0.15),), (1.0,), (), 1, 300.0, 0.05),
     Case(f"2 13 {NONE} 0", 2, (PROPANE, BUTANE), (0.6, 0.4), (INF,), 0, 300.0, 0.05),
@@ -70,12 +79,20 @@ CASES = [
     Case(f"1 15 {NONE} 0", 1, *PURE, 1, NAN, 0.05),
     Case(f"4 16 {NONE} 0", 4, *PURE, 2, 300.0),
     Case(f"3 17 {NONE} 0", 3, (PROPANE, BUTANE), (60.0, 40.0), (0.0,), 0, 300.0, 0.0, 0.001),
+    Case(f"7 14 {NONE} 0", 7, (PROPANE, BUTANE), (1.4, -0.4), (0.003,)),
+    Case(f"7 17 {NONE} 0", 7, (PROPANE, BUTANE), (60.0, 40.0), (0.003,)),
+    Case(f"7 15 {NONE} 0", 7, *LPG, 0, -0.0, 0.0, 0.002),
     # refused by the equation
     Case(f"3 21 {NONE} 0", 3, *PURE, 0, 300.0),
     Case(f"1 21 {NONE} 0", 1, *PURE, 2, 300.0, 0.05, -1e-3),
     Case(f"4 22 {NONE} 30", 4, *PURE, 0, 600.0),
     Case(f"6 26 {NONE} 55", 6, *PURE, 0, 600.0),
     Case(f"1 27 {NONE} 1", 1, *PURE, 0, 300.0, 1e300),
+    Case(f"7 22 {NONE} 50", 7, *LPG, 0, 5000.0),
+    Case(f"7 22 {NONE} 3", 7, *WITHOUT_BUTANE),
+    Case(f"7 27 {NONE} 1", 7, *WITHOUT_BUTANE, 0, 350.0),
+    # an interaction of 2 makes the blend's a 0
+    Case(f"7 23 {NONE} 1", 7, *ALIKE[:2], (2.0,), 0, 300.0),
     Case(f"2 24 {NONE} 64", 2, *PURE, 0, 300.0, -100.0),
 ]
 

@@ -8,8 +8,8 @@ from peng_robinson_board.record import bits
 
 from tests.oracle_cases import CASES, TRACE
 
-# document 01, "Kinds and spans"
-SPANS = {1: 3101, 2: 6204, 3: 30, 4: 30, 5: 150, 6: 250}
+# document 01, "Kinds and spans"; document 02, P3
+SPANS = {1: 3101, 2: 6204, 3: 30, 4: 30, 5: 150, 6: 250, 7: 150}
 
 
 def request_of(kind: int) -> Request:
@@ -60,7 +60,10 @@ class Schedule(unittest.TestCase):
         before = board.to_bytes()
         self.refused(1, board.submit, 4, request)
         self.refused(2, board.submit, 0, Request(0, 1, request.block))
+        self.refused(2, board.submit, 0, Request(8, 2, request.block))
         self.refused(3, board.submit, 0, Request(4, 9, request.block))
+        self.refused(3, board.submit, 0, Request(7, 1, request.block))
+        self.refused(3, board.submit, 0, Request(7, 3, request.block))
         self.refused(8, board.submit, 0, Request(4, 1, request.block[:-1]))
         self.refused(5, board.turn, 63)
         self.refused(1, board.look, 4)

@@ -1,8 +1,11 @@
-"""Blocks against document 01's layout, answers against the oracle's, SI against reduced numbers."""
+"""Blocks against document 01's layout, answers against the oracle's, SI against reduced numbers; critical points of blends
+against the textbook."""
+import decimal
 import struct
 import unittest
+from decimal import Decimal
 from fractions import Fraction
-from typing import Tuple
+from typing import List, Sequence, Tuple
 
 from peng_robinson_board import (
     Blend,
@@ -11,6 +14,8 @@ from peng_robinson_board import (
     Refused,
     Request,
     answer,
+    blend_critical_point,
+    components,
     critical_point,
     density,
     pressure_spinodal,
@@ -18,6 +23,7 @@ from peng_robinson_board import (
     stability_spinodals,
     stable_density,
 )
+from peng_robinson_board.units import GAS_CONSTANT
 
 from tests.oracle_cases import CASES, LPG, PURE, Case
 from tests.support import BUTANE, PROPANE
@@ -37,7 +43,7 @@ def numbers_of(line: str) -> Tuple[float, ...]:
 
 class Oracle(unittest.TestCase):
     def test_every_kind_is_there(self) -> None:
-        self.assertEqual({case.kind for case in CASES if case.status == 0}, {1, 2, 3, 4, 5, 6})
+        self.assertEqual({case.kind for case in CASES if case.status == 0}, {1, 2, 3, 4, 5, 6, 7})
 
     def test_answers(self) -> None:
         for case in CASES:
@@ -86,9 +92,11 @@ class SI(unittest.TestCase):
             (Request.critical_point(self.propane), 5, 0, 0.0, 0.0, 0.0),
             (Request.critical_point(self.propane, 350.0, start), 5, 0, 350.0, 0.0, 0.006),
             (Request.stability_spinodals(self.propane, 300.0), 6, 0, 300.0, 0.0, 0.0),
+            (Request.blend_critical_point(self.blend), 7, 0, 0.0, 0.0, 0.0),
+            (Request.blend_critical_point(self.blend, 350.0, start), 7, 0, 350.0, 0.0, 0.006),
         ):
             with self.subTest(kind=kind, choice=choice):
-                self.assertEqual((request.kind, request.n), (kind, 2 if kind < 5 else 1))
+                self.assertEqual((request.kind, request.n), (kind, 1 if kind in (5, 6) else 2))
                 found = self.conditions(request)
                 self.assertEqual(found[:2], (choice, temperature))
                 self.assertAlmostEqual(found[2], reduced_pressure, delta=1e-17)
@@ -117,6 +125,11 @@ class SI(unittest.TestCase):
         critical = critical_point(self.propane)
         self.assertEqual(critical.temperature, numbers_of(line)[0])
         self.near(critical.density, numbers_of(line)[1], MOLES)
+        line = self.expected(7, *LPG)
+        critical = blend_critical_point(self.blend)
+        self.assertEqual(critical.temperature, numbers_of(line)[0])
+        self.near(critical.density, numbers_of(line)[1], MOLES)
+        self.assertEqual((critical.evaluations, critical.record.line()), (int(line.split()[-1]), line))
         line = self.expected(6, *PURE, 0, 300.0)
         both = stability_spinodals(self.propane, 300.0)
         self.near(both.vapor_density, numbers_of(line)[0], MOLES)
@@ -146,6 +159,8 @@ class SI(unittest.TestCase):
                 lambda x: density(self.blend, x, 1e5, "liquid"),
                 lambda x: spinodal(self.blend, x, "liquid"),
                 lambda x: stability_spinodals(self.propane, x),
+                # 0 is none given
+                lambda x: blend_critical_point(self.blend, x or -0.0),
             ):
                 with self.assertRaises(Refused) as caught:
                     refused(number)
@@ -155,6 +170,102 @@ class SI(unittest.TestCase):
         self.assertRaises(ValueError, density, self.blend, 300.0, 1e5, "solid")
         self.assertRaises(ValueError, spinodal, self.blend, 300.0, "start")
         self.assertRaises(ValueError, spinodal, self.blend, 300.0, 1000.0)
+
+
+class BlendCriticalPoints(unittest.TestCase):
+    """Where the Helmholtz energy's matrix of second derivatives by the mole numbers has the eigenvalue 0, and its third
+    derivative along the eigenvector is 0 too (Heidemann and Khalil 1980). The energy is the textbook's, with 60 digits."""
+
+    def energy(self, blend: Blend, temperature: Decimal, volume: Decimal, moles: Sequence[Decimal]) -> Decimal:
+        """Over RT, without what is linear in the mole numbers."""
+        constants = []
+        for one in blend.components:
+            numbers = (one.critical_temperature, one.critical_pressure, one.acentric_factor)
+            critical, pressure, acentric = map(Decimal, numbers)
+            kappa = Decimal("0.37464") + (Decimal("1.54226") - Decimal("0.26992") * acentric) * acentric
+            alpha = (1 + kappa * (1 - (temperature / critical).sqrt())) ** 2
+            b = Decimal("0.07780") * Decimal(GAS_CONSTANT) * critical / pressure
+            a = Decimal("0.45724") * (Decimal(GAS_CONSTANT) * critical) ** 2 / pressure * alpha
+            constants.append((a / (Decimal(GAS_CONSTANT) * temperature), b))
+        (a1, b1), (a2, b2) = constants
+        n1, n2 = moles
+        attraction = n1 * n1 * a1 + n2 * n2 * a2 + 2 * n1 * n2 * (a1 * a2).sqrt() * (1 - Decimal(blend.interactions[0]))
+        b = n1 * b1 + n2 * b2
+        root = Decimal(2).sqrt()
+        ideal = sum(n * (n / volume).ln() for n in moles)
+        ratio = (volume + (1 + root) * b) / (volume + (1 - root) * b)
+        return ideal - (n1 + n2) * (1 - b / volume).ln() - attraction / (2 * root * b) * ratio.ln()
+
+    def conditions(self, blend: Blend, temperature: float, density: float) -> Tuple[Decimal, Decimal]:
+        """The smallest eigenvalue and the third derivative along its vector, by differences."""
+        fractions = [Decimal(x) for x in blend.fractions]
+        roots = [x.sqrt() for x in fractions]
+        step = Decimal("1e-12")
+
+        def moved(along: Sequence[Decimal], steps: int) -> Decimal:
+            moles = [x + steps * step * root * u for x, root, u in zip(fractions, roots, along)]
+            return self.energy(blend, Decimal(temperature), 1 / Decimal(density), moles)
+
+        def second(*along: int) -> Decimal:
+            first, middle, last = (moved([Decimal(u) for u in along], steps) for steps in (-1, 0, 1))
+            return (first - 2 * middle + last) / step**2
+
+        m11, m22 = second(1, 0), second(0, 1)
+        m12 = (second(1, 1) - m11 - m22) / 2
+        smallest = (m11 + m22 - ((m11 - m22) ** 2 + 4 * m12**2).sqrt()) / 2
+        length = (m12**2 + (smallest - m11) ** 2).sqrt()
+        vector: List[Decimal] = [m12 / length, (smallest - m11) / length]
+        twice_back, back, on, twice_on = (moved(vector, steps) for steps in (-2, -1, 1, 2))
+        return smallest, (twice_on - 2 * on + 2 * back - twice_back) / (2 * step**3)
+
+    def test_conditions_hold(self) -> None:
+        blends = []
+        for names, interaction in ((("propane", "butane"), 0.003), (("methane", "propane"), 0.014), (("R32", "R134a"), 0.0)):
+            parts = [components.find(name) for name in names]
+            blends += [Blend.of(parts, [x, 1.0 - x], {names: interaction}) for x in (0.1, 0.5, 0.9)]
+        with decimal.localcontext() as context:
+            context.prec = 60
+            for blend in blends:
+                with self.subTest(blend=blend):
+                    found = blend_critical_point(blend)
+                    for condition in self.conditions(blend, found.temperature, found.density):
+                        self.assertLess(abs(condition), Decimal("1e-9"))
+                    # and not everywhere
+                    for temperature, part in ((found.temperature + 1.0, 1.0), (found.temperature, 1.1)):
+                        off = self.conditions(blend, temperature, part * found.density)
+                        self.assertGreater(max(map(abs, off)), Decimal("1e-4"))
+
+    def test_between_the_components(self) -> None:
+        propane, butane = components.find("propane"), components.find("butane")
+        temperatures = [critical_point(propane).temperature]
+        for percent in range(1, 100, 7):
+            blend = Blend.of([butane, propane], [percent / 100, 1.0 - percent / 100])
+            temperatures.append(blend_critical_point(blend).temperature)
+        temperatures.append(critical_point(butane).temperature)
+        self.assertEqual(temperatures, sorted(set(temperatures)))
+
+    def test_order_of_the_components(self) -> None:
+        propane, butane = components.find("propane"), components.find("butane")
+        kij = {("propane", "butane"): 0.003}
+        one = blend_critical_point(Blend.of([propane, butane], [0.6, 0.4], kij))
+        other = blend_critical_point(Blend.of([butane, propane], [0.4, 0.6], kij))
+        self.assertAlmostEqual(one.temperature / other.temperature, 1.0, delta=1e-9)
+        self.assertAlmostEqual(one.density / other.density, 1.0, delta=1e-9)
+
+    def test_one_component_under_two_names(self) -> None:
+        propane = components.find("propane")
+        alone = critical_point(propane)
+        both = blend_critical_point(Blend((propane, propane), (0.3, 0.7), (0.0,)))
+        self.assertAlmostEqual(both.temperature / alone.temperature, 1.0, delta=1e-9)
+        self.assertAlmostEqual(both.density / alone.density, 1.0, delta=1e-9)
+
+    def test_two_components_and_no_others(self) -> None:
+        parts = [Component(str(i), *PROPANE) for i in range(9)]
+        for n in (1, 3, 8, 9):
+            with self.subTest(n=n), self.assertRaises(Refused) as caught:
+                blend_critical_point(Blend.of(parts[:n], [1.0 / n] * n))
+            self.assertEqual(caught.exception.number, 3)
+            self.assertIn("two", caught.exception.remedy)
 
 
 class Blends(unittest.TestCase):

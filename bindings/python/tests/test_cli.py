@@ -27,9 +27,10 @@ ASKED = [
     (["spinodal", *LPG, "--temperature", "300", "--phase", "liquid"], 10),
     (["critical", PURE], 11),
     (["spinodal", PURE, "--temperature", "300", "--stability"], 14),
+    (["critical", *LPG], 17),
 ]
 NAMES = {1: ["density"], 2: ["density"], 4: ["pressure", "density"], 5: ["temperature", "density"]}
-NAMES.update({3: ["pressure", "density", "curvature"], 6: ["vapor_density", "liquid_density"]})
+NAMES.update({3: ["pressure", "density", "curvature"], 6: ["vapor_density", "liquid_density"], 7: NAMES[5]})
 SI = {"density": 1e30 / 6.02214076e23, "pressure": 13806490.0, "temperature": 1.0}
 SI.update({"vapor_density": SI["density"], "liquid_density": SI["density"]})
 
@@ -109,8 +110,18 @@ class Calculations(unittest.TestCase):
         self.assertEqual((spinodal["kind"], list(spinodal["values"])), (3, NAMES[3]))
         for name, number in zip(NAMES[3], floats(CASES[7].line)):
             self.assertAlmostEqual(spinodal["values"][name] / number, 1.0, delta=1e-8)
-        (critical,) = objects(run("critical", PURE, "--temperature", "350", "--start", "3321.0781", "--json"))
-        self.assertAlmostEqual(critical["values"]["temperature"], floats(CASES[12].line)[0], delta=1e-6)
+        # 0.002 in mol/m^3
+        starts = ["--temperature", "350", "--start", "3321.0781"]
+        for words, kind, place in (([PURE], 5, 12), (LPG, 7, 18)):
+            (critical,) = objects(run("critical", *words, *starts, "--json"))
+            self.assertEqual((critical["kind"], critical["evaluations"]), (kind, int(CASES[place].line.split()[-1])))
+            self.assertAlmostEqual(critical["values"]["temperature"], floats(CASES[place].line)[0], delta=1e-6)
+            readable = run("critical", *words, *starts).text.splitlines()
+            self.assertIn("from temperature  350 K", readable)
+            self.assertIn("from density      3321.0781 mol/m^3", readable)
+            # 0 is none given
+            none = run("critical", *words, "--temperature", "0", "--start", "0")
+            self.assertEqual(none, run("critical", *words))
 
     def test_names_and_aliases(self) -> None:
         at = ["--temperature", "300", "--pressure", "5e5"]
@@ -132,13 +143,6 @@ class Calculations(unittest.TestCase):
         self.assertEqual(ran.status, 1)
         self.assertIn("more than one pair", ran.err)
 
-    def test_one_component_for_a_critical_point(self) -> None:
-        for words in (["propane=1"], ["propane", "butane"], ["propane=0.6", "butane=0.4"]):
-            with self.subTest(words=words):
-                ran = run("critical", *words)
-                self.assertEqual(ran.status, 1)
-                self.assertIn("critical takes one component", ran.err)
-
     def test_components(self) -> None:
         readable, lines = run("components"), objects(run("components", "--json"))
         rows = list(csv.DictReader(io.StringIO(run("components", "--csv").text)))
@@ -147,6 +151,95 @@ class Calculations(unittest.TestCase):
         for row, line in zip(rows, lines):
             self.assertEqual(float(row["critical pressure [Pa]"]), line["critical_pressure"])
             self.assertIn(line["name"], readable.text)
+
+
+class CriticalPoints(unittest.TestCase):
+    """`critical`, and `write critical`, by one component or by two with fractions."""
+
+    BLEND = ["propane=0.6", "butane=0.4"]
+
+    def temperature(self, *words: str) -> float:
+        (found,) = objects(run("critical", *words, "--json"))
+        return float(found["values"]["temperature"])
+
+    def test_of_a_component_and_of_a_blend(self) -> None:
+        self.assertIn("component    propane\n", run("critical", "propane").text)
+        self.assertIn("kind 5 (critical point)", run("critical", "propane").text)
+        ran = run("critical", *self.BLEND)
+        self.assertEqual((ran.status, ran.err), (0, ""))
+        self.assertIn("blend        propane 0.6, butane 0.4\n", ran.text)
+        self.assertIn("kind 7 (critical point of a blend)", ran.text)
+
+    def test_between_the_components(self) -> None:
+        propane, butane = self.temperature("propane"), self.temperature("butane")
+        self.assertLess(propane, self.temperature(*self.BLEND))
+        self.assertLess(self.temperature(*self.BLEND), butane)
+        # less attraction between unlike molecules, a lower critical temperature
+        self.assertLess(self.temperature(*self.BLEND, "--kij", "R290,butane=0.01"), self.temperature(*self.BLEND))
+
+    def test_refused(self) -> None:
+        nine = [f"c{place}:300:4e6:0.1={1 / 9}" for place in range(9)]
+        for number, told, words in (
+            (3, "a blend of two", ["propane=0.5", "butane=0.3", "ethane=0.2"]),
+            (3, "a blend of two", ["propane=0.25", "butane=0.25", "ethane=0.25", "methane=0.25"]),
+            (3, "a blend of two", nine),
+            (12, "critical temperature in K", ["x:-1:4e6:0.1=0.5", "butane=0.5"]),
+            (13, "finite", [*self.BLEND, "--kij", "propane,butane=nan"]),
+            (14, "minus sign", ["propane=1.4", "butane=-0.4"]),
+            (14, "minus sign", ["propane=1", "butane=-0"]),
+            (14, "not finite", ["propane=nan", "butane=0.4"]),
+            (14, "not finite", ["propane=0.6", "butane=inf"]),
+            (17, "divided by 100", ["propane=60", "butane=40"]),
+            (17, "add up to 1", ["propane=0.6", "butane=0.3"]),
+            (17, "add up to 1", ["propane=0", "butane=0"]),
+            (15, "above 0 K", [*self.BLEND, "--temperature", "nan"]),
+            (15, "above 0 K", [*self.BLEND, "--temperature", "-300"]),
+            (15, "above 0 K", [*self.BLEND, "--temperature", "-0.0"]),
+            (15, "finite", [*self.BLEND, "--start", "-inf"]),
+        ):
+            for command in (["critical"], ["write", "critical"]):
+                with self.subTest(command=command, words=words):
+                    ran = run(*command, *words)
+                    self.assertEqual((ran.status, ran.out), (2, b""))
+                    self.assertEqual(len(ran.err.splitlines()), 2)
+                    self.assertIn(f"refused by {number} ", ran.err)
+                    self.assertIn(told, ran.err)
+
+    def test_a_fraction_of_zero(self) -> None:
+        for number, words in ((22, []), (27, ["--temperature", "350"])):
+            with self.subTest(words=words):
+                ran = run("critical", "propane=1", "butane=0", *words)
+                self.assertEqual((ran.status, ran.out), (2, b""))
+                self.assertIn(f"refused by {number} ", ran.err)
+                self.assertIn("both fractions above 0", ran.err)
+
+    def test_bad_usage(self) -> None:
+        for told, words in (
+            ("'propane=1' has a fraction: critical takes one component without, or two with", ["propane=1"]),
+            ("'propane=0.9' has a fraction", ["propane=0.9"]),
+            ("'propane' has no fraction: critical takes one component without, or two with", ["propane", "butane"]),
+            ("'butane' has no fraction", ["propane=0.6", "butane"]),
+            ("two with their mole fractions", ["propane", "butane", "ethane"]),
+            ("propane is named twice", ["propane=0.5", "propane=0.5"]),
+            ("propane is named twice", ["propane=0.5", "R290=0.5"]),
+            ("close to it: propane", ["propan=0.5", "butane=0.5"]),
+            ("no component 'unobtainium'", ["propane=0.5", "unobtainium=0.5"]),
+            ("'half' is no number", ["propane=half", "butane=0.5"]),
+            ("'' is no number", ["propane=", "butane=1"]),
+            ("'60%' is no number", ["propane=60%", "butane=40%"]),
+            ("'0,6' is no number", ["propane=0,6", "butane=0,4"]),
+            ("'warm' is no number", [*self.BLEND, "--temperature", "warm"]),
+            ("does not name two components", [*self.BLEND, "--kij", "propane,ethane=0.01"]),
+            ("does not name two components", ["propane", "--kij", "propane,butane=0.003"]),
+            ("--pressure", [*self.BLEND, "--pressure", "1e5"]),
+            ("COMPONENT", []),
+        ):
+            for command in (["critical"], ["write", "critical"]):
+                with self.subTest(command=command, words=words):
+                    ran = run(*command, *words)
+                    self.assertEqual((ran.status, ran.out), (1, b""))
+                    self.assertIn(told, ran.err)
+                    self.assertNotIn("Traceback", ran.err)
 
 
 class Refusals(unittest.TestCase):
@@ -239,7 +332,6 @@ class BadUsage(unittest.TestCase):
             ["stable", "propane", "--temperature", "", "--pressure", "1e5"],
             ["spinodal", "propane=0.5", "butane=0.5", "--temperature", "300", "--stability"],
             ["spinodal", "propane", "--temperature", "300", "--stability", "--phase", "liquid"],
-            ["critical", "propane", "butane"],
             ["write"],
             ["write", "nonsense"],
             ["record"],
@@ -365,6 +457,19 @@ class Files(unittest.TestCase):
         (found,) = objects(run("record", self.file("record", answered), "--json", "--reduced"))
         self.assertEqual(found["values"], {"pressure": 0.5, "density": 0.001, "curvature": -2.0})
         self.assertEqual((found["ticket"], found["queue"], found["status"], found["evaluations"]), (5, 2, 0, 7))
+
+    def test_record_of_a_blends_critical_point(self) -> None:
+        name = self.file("record", self.record(7, 0, (395.65, 0.0025, 0.0), 5))
+        ran = run("record", name)
+        self.assertEqual((ran.status, ran.err), (0, ""))
+        lines = {line[:13].strip(): line[13:] for line in ran.text.splitlines()}
+        self.assertEqual(lines["kind"], "7, critical point of a blend")
+        self.assertEqual(lines["temperature"].split(), ["395.65", "K"])
+        self.assertEqual(lines["density"].split(), ["4151.347668", "mol/m^3"])
+        (found,) = objects(run("record", name, "--json", "--reduced"))
+        self.assertEqual(found["values"], {"temperature": 395.65, "density": 0.0025})
+        (row,) = csv.DictReader(io.StringIO(run("record", name, "--csv", "--reduced").text))
+        self.assertEqual((row["temperature [K]"], row["density [1/angstrom^3]"]), ("395.65", "0.0025"))
 
     def test_records_one_after_another(self) -> None:
         data = self.record(3, 0, (0.5, 0.001, -2.0), 7) + self.record(2, 17, (0.0, 0.0, 0.0), 0) + b"xyz"

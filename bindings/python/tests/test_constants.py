@@ -19,8 +19,8 @@ from peng_robinson_board import (
 from tests.support import PROJECT
 
 HEADER = PROJECT / "include" / "peng_robinson_board.h"
-# document 01, "Kinds and spans"
-SPANS = {1: 3101, 2: 6204, 3: 30, 4: 30, 5: 150, 6: 250}
+# document 01, "Kinds and spans"; document 02, P3
+SPANS = {1: 3101, 2: 6204, 3: 30, 4: 30, 5: 150, 6: 250, 7: 150}
 
 
 @unittest.skipUnless(HEADER.is_file(), f"no {HEADER}")
@@ -63,6 +63,7 @@ class Documents(unittest.TestCase):
             4: ["pressure", "density"],
             5: ["temperature", "density"],
             6: ["vapor_density", "liquid_density"],
+            7: ["temperature", "density"],
         }
         self.assertEqual(names, expected)
 

@@ -137,7 +137,7 @@ class Isotherms(unittest.TestCase):
         self.check_spinodals(BLEND, numbers)
         self.assertEqual([one["spinodals"] is None for one in numbers["isotherms"]], [False, False, True])
         self.assertIsNone(numbers["critical_point"])
-        self.assertTrue(any("kind 7" in note for note in numbers["notes"]))
+        self.assertEqual(numbers["notes"], [curves.NO_CRITICAL_PRESSURE])
 
     def test_highest_pressure(self):
         numbers = curves.isotherms(PROPANE, [300.0, 340.0, 400.0], 1e6)
@@ -219,10 +219,23 @@ class Dome(unittest.TestCase):
         numbers = curves.dome(BLEND)
         self.check(BLEND, numbers)
         self.assertIsNone(numbers["critical_point"])
-        self.assertEqual(numbers["stability_spinodals"], [])
-        self.assertTrue(any("kind 7" in note for note in numbers["notes"]))
+        self.assertEqual((numbers["stability_spinodals"], numbers["notes"]), ([], []))
         last = numbers["spinodals"][-1]
         self.assertAlmostEqual(last["liquid"]["density"] / last["vapor"]["density"], 1.0, delta=0.04)
+        # outside the dome, where the pressure still rises with density
+        critical = numbers["blend_critical_point"]
+        self.assertGreater(critical["temperature"], last["temperature"])
+        equation = PengRobinson(BLEND, critical["temperature"])
+        self.assertGreater(equation.slope(critical["density"]), 1e-3)
+
+    def test_blends_without_a_critical_point(self):
+        three = board.Blend.of([*BLEND.components, components.find("ethane")], [0.5, 0.3, 0.2])
+        without_butane = board.Blend.of(BLEND.components, [1.0, 0.0])
+        for blend, note in ((three, curves.NO_CRITICAL_POINT), (without_butane, curves.CRITICAL_POINT_NOT_FOUND)):
+            with self.subTest(note):
+                numbers = curves.dome(blend)
+                self.assertIsNone(numbers["blend_critical_point"])
+                self.assertEqual(numbers["notes"], [note])
 
     def test_lowest_temperature(self):
         self.assertEqual(curves.dome(PROPANE, 250.0)["spinodals"][0]["temperature"], 250.0)
@@ -456,12 +469,14 @@ class Pictures(InFolder):
             with self.subTest(text):
                 self.assertIn(text, drawn)
 
-    def test_blend_tells_of_the_missing_critical_point(self):
+    def test_critical_point_of_a_blend(self):
         words = ["propane=0.6", "butane=0.4", "--temperatures", "300", "450"]
         status, said, told = run(["plot", "isotherms", *words, "-o", "blend.svg"])
         self.assertEqual((status, told), (0, ""))
-        self.assertIn("kind 7", said)
-        self.assertIn("kind 7", Path("blend.svg").read_text())
+        self.assertIn("no call gives its pressure", said)
+        self.assertIn("no call gives its pressure", Path("blend.svg").read_text())
+        self.assertEqual(run(["plot", "dome", *words[:2], "-o", "dome.svg"]), (0, "", ""))
+        self.assertIn("critical point of the blend", Path("dome.svg").read_text())
 
     def test_names_are_drawn_as_they_are(self):
         # dollar signs enclose a formula in matplotlib

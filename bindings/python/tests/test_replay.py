@@ -45,16 +45,20 @@ class Replay(unittest.TestCase):
 
     def test_requests_and_records(self) -> None:
         """A request file submitted, and the record that the schedule and the oracle say, byte for byte."""
-        case = next(case for case in CASES if case.kind == 4 and case.status == 0)
         request, records = self.folder / "request", self.folder / "records"
-        request.write_bytes(case.request())
-        ran = run("replay", self.script([f"submit 2 {request}", "turn 64 120"]), "--records", str(records))
-        # span 30 in queue 2: turn 29 * 4 + 3
-        self.assertEqual(ran.text.splitlines(), ["ticket 0"] + ["turned 0"] * 118 + ["turned 1 0 4 2", "turned 0"])
-        _, status, *digits, evaluations = case.line.split()
-        sealed = struct.pack("<Q", int(status)) + b"".join(bytes.fromhex(word)[::-1] for word in digits)
-        public = struct.pack("<QBB6x", 0, 4, 2)
-        self.assertEqual(records.read_bytes(), public + sealed + struct.pack("<Q8x", int(evaluations)))
+        for kind, span in ((4, 30), (7, 150)):
+            case = next(case for case in CASES if case.kind == kind and case.status == 0)
+            request.write_bytes(case.request())
+            # in queue 2
+            last = (span - 1) * 4 + 3
+            script = self.script([f"submit 2 {request}", f"turn 64 {last + 1}"])
+            ran = run("replay", script, "--records", str(records))
+            expected = ["ticket 0"] + ["turned 0"] * (last - 1) + [f"turned 1 0 {kind} 2", "turned 0"]
+            self.assertEqual(ran.text.splitlines(), expected)
+            _, status, *digits, evaluations = case.line.split()
+            sealed = struct.pack("<Q", int(status)) + b"".join(bytes.fromhex(word)[::-1] for word in digits)
+            public = struct.pack("<QBB6x", 0, kind, 2)
+            self.assertEqual(records.read_bytes(), public + sealed + struct.pack("<Q8x", int(evaluations)))
         request.write_bytes(case.request()[:-1])
         self.assertEqual(run("replay", self.script([f"submit 2 {request}"])).status, 1)
         self.assertEqual(run("replay", self.script([]), "--records", "/nowhere/records").status, 1)
@@ -92,7 +96,8 @@ class Replay(unittest.TestCase):
         block = self.folder / "block"
         block.write_bytes(CASES[0].block())
         lines = [f"submit 0 1 2 {block}", "turn", "look 0", "turn 63 2", "turn 64 60 # sixty", "", "look 0"]
-        lines += ["submit 9 1 2 zeros", "submit 0x2 5 1 zeros", "turn 200 700", "turn 300 0", "look 2"]
+        lines += ["submit 9 1 2 zeros", "submit 0x2 5 1 zeros", "submit 3 7 2 zeros", "submit 3 7 1 zeros"]
+        lines += ["submit 3 8 2 zeros", "turn 200 700", "turn 300 0", "look 2"]
         lines += ["turn 257 3", "look 0", f"submit 0 1 2 {block}"]
         script = self.script(lines)
         words = [sys.executable, str(PROJECT / "tools" / "calls"), script]
