@@ -76,6 +76,10 @@ impl Mix {
         Request::spinodal_branch(&self.blend, TEMPERATURE, phase)
     }
 
+    pub fn critical_point(&self) -> Result<Request, Refusal> {
+        Request::blend_critical_point(&self.blend, None, None)
+    }
+
     /// Which component the main one is stands in the block, which is not public.
     pub fn critical_point_of_main_component(&self) -> Result<Request, Refusal> {
         Request::critical_point(&self.blend, self.main_component(), None, None)
@@ -94,6 +98,7 @@ impl Mix {
             ("stable density, 25 °C, 5 bar", self.stable_density()?),
             ("vapour spinodal, 25 °C", self.spinodal(Phase::Vapor)?),
             ("liquid spinodal, 25 °C", self.spinodal(Phase::Liquid)?),
+            ("critical point, the mix itself", self.critical_point()?),
             (
                 "critical point, main component",
                 self.critical_point_of_main_component()?,
