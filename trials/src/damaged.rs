@@ -4,7 +4,7 @@
 use crate::blocks::{damage_float, odd_float, Blocks};
 use crate::proved;
 use crate::report::{same, same_bytes, Difference, Options, Outcome, Progress, Tally};
-use oracle::block::check;
+use oracle::block::{check, count_fits};
 use oracle::board::{
     self, block_at, count_at, fits, get, kind_at, put, span, Answer, ACCEPTED, BOARD, COUNTERS,
     EVALUATIONS, FLOATS, HELD, LATEST, QUARTER, RECORD, TURN, TURNS,
@@ -152,6 +152,9 @@ fn plausible(rng: &mut Rng) -> u64 {
 fn telling(rng: &mut Rng, q: &[u8]) -> Option<[f64; 2]> {
     let slot = first_slot(q);
     let (kind, n) = (get(q, kind_at(slot)) as u8, get(q, count_at(slot)) as usize);
+    if !count_fits(kind.into(), n as u64) {
+        return None;
+    }
     let block = &q[block_at(slot)..block_at(slot) + BLOCK];
     let job = check(kind, n, block.try_into().expect("a whole block")).ok()?;
     let (eos, x, t) = (&job.eos, &job.molefracs[..], job.temperature);
