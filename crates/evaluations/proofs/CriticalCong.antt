@@ -1,5 +1,5 @@
 -- Which mole numbers and volumes have conditions of criticality and stability alike in the first twelve coefficients. Assumes nothing.
-use mathlib.Core.Path.{_≡_, refl, sym, ap, _∙_}
+use mathlib.Core.Path.{_≡_, refl, ap, _∙_}
 use Prim.Native.Nat.{ℕ, _≤_, _<_}
 use native.Mathlib.Omega.{arith}
 use mathlib.Core.Bool.{Bool, true, false, cond, _||_}
@@ -8,26 +8,16 @@ use lib.ListN.{take}
 use lib.Dec.{eqb}
 use lib.Ieee.{Float, eq}
 use Rattle.float.specs.Ops.{f0, f1}
-use Rattle.jet.specs.Coefficients.{at, Upto, cut, numberOf, markedOf, sumOf, differenceOf, productOf, quotientOf, recipOf, rootOf, logarithmOf, derivativeOf}
+use Rattle.jet.specs.Coefficients.{at, Upto, numberOf, markedOf, logarithmOf, derivativeOf}
 use Rattle.jet.specs.Ops.{_⊞_, _⊟_, _⊠_, _⧄_}
 use Rattle.jet.proofs.Depends.{sum-first, difference-first, product-first, quotient-first, logarithm-first, derivative-first}
-use Rattle.jet.proofs.Prefix.{add-upto, sub-upto, mul-upto, div-upto, sqrt-upto, ln-upto}
-use Rattle.linear.specs.declared.types.Eigenpair.{Eigenpair}
-use Rattle.linear.specs.SmallestEv.{half, smallestOf, vectorOf, Smallest}
+use Rattle.linear.specs.SmallestEv.{half, smallestOf, vectorOf}
 use Rattle.linear.proofs.Eigenvectors.{smallest-cong, vector-cong}
 use Rattle.eos.specs.declared.types.Blend.{Blend}
-use Rattle.eos.specs.Indices.{foldFrom, jetTotal}
-use Rattle.eos.specs.Jets.{pairOf}
 use Rattle.eos.specs.Cubic.{nth}
-use Rattle.eos.specs.Helmholtz.{helmholtz}
-use Rattle.eos.proofs.Energy.{only-first, helmholtz-cong, volume-cong, coefficient-of}
-use Rattle.eos.proofs.Pair.{both}
+use Rattle.eos.proofs.Energy.{helmholtz-cong, volume-cong, coefficient-of}
 use Rattle.eos.proofs.Totals.{total-cong}
-use Rattle.evaluations.specs.declared.types.Criticality.{Criticality}
-use Rattle.evaluations.specs.declared.types.Stability.{Stability}
-use Rattle.evaluations.specs.declared.types.SymmetricMatrix.{SymmetricMatrix}
-use Rattle.evaluations.specs.Critical.{energyOverT, along, secondAlong, dmuDn, sqrtZ, matrix, eigenvalue, eigenvector, moved, movedAlong, idealTerm, idealGas, thirdDerivative, criticalCount, criticalityConditions, stabilityCondition}
-use Rattle.evaluations.specs.Entries.{Entries}
+use Rattle.evaluations.specs.Critical.{energyOverT, along, secondAlong, dmuDn, sqrtZ, matrix, eigenvalue, eigenvector, moved, movedAlong, idealTerm, idealGas, thirdDerivative}
 
 is : {a b : List Float} → a ≡ b → Upto 12 a b
 is e = ap (take 12) e

@@ -10,20 +10,18 @@ use lib.Ieee.{Float, eq}
 use borrow.Author.Tests.{eqb-true}
 use Rattle.float.specs.Ops.{f0, f1}
 use Rattle.jet.specs.Coefficients.{at, Upto, cut, numberOf, markedOf, sumOf, differenceOf, productOf, quotientOf, recipOf, rootOf, logarithmOf, derivativeOf}
-use Rattle.jet.specs.Ops.{_⊞_, _⊟_, _⊠_, _⧄_}
-use Rattle.jet.proofs.Depends.{sum-first, difference-first, product-first, quotient-first, logarithm-first, derivative-first}
+use Rattle.jet.specs.Ops.{_⊞_, _⊠_}
 use Rattle.jet.proofs.Prefix.{add-upto, sub-upto, mul-upto, div-upto, sqrt-upto, ln-upto}
 use Rattle.linear.specs.declared.types.Eigenpair.{Eigenpair}
-use Rattle.linear.specs.SmallestEv.{half, smallestOf, vectorOf, Smallest}
+use Rattle.linear.specs.SmallestEv.{half, Smallest}
 use Rattle.linear.proofs.Eigenvectors.{smallest-cong, vector-cong}
 use Rattle.eos.specs.declared.types.Blend.{Blend}
 use Rattle.eos.specs.Indices.{foldFrom, jetTotal}
 use Rattle.eos.specs.Jets.{pairOf}
 use Rattle.eos.specs.Cubic.{nth}
 use Rattle.eos.specs.Helmholtz.{helmholtz}
-use Rattle.eos.proofs.Energy.{only-first, helmholtz-cong, volume-cong, coefficient-of}
+use Rattle.eos.proofs.Energy.{only-first, coefficient-of}
 use Rattle.eos.proofs.Pair.{both}
-use Rattle.eos.proofs.Totals.{total-cong}
 use Rattle.evaluations.specs.declared.types.Criticality.{Criticality}
 use Rattle.evaluations.specs.declared.types.Stability.{Stability}
 use Rattle.evaluations.specs.declared.types.SymmetricMatrix.{SymmetricMatrix}

@@ -1,6 +1,5 @@
 -- A mole number of one moves by its own mark. Assumes nothing.
 use mathlib.Core.Path.{_≡_, refl, sym, ap, _∙_}
-use mathlib.Core.List.{List}
 use mathlib.Core.Bool.{Bool, true}
 use lib.Dec.{T, eqb}
 use lib.Ieee.{Float, binary64, fits, ofBits, toBits, add, mul, sub, div, round}

@@ -1,6 +1,5 @@
 // What the conditions of one component and of two share: the roots of fractions, an entry of the matrix M, mole numbers moved
 // along the eigenvector, and their ideal gas.
-ghost use mathlib.Core.Path.{_≡_};
 ghost use Rattle.jet.specs.Coefficients.{Upto, numberOf};
 ghost use Rattle.jet.specs.Ops.{_⊞_, _⊠_};
 ghost use Rattle.evaluations.specs.Critical.{sqrtZ, moved as movedOf, idealTerm};

@@ -1,5 +1,4 @@
 // The conditions of two components, from four energies at one temperature: three for the matrix M, one along its eigenvector.
-ghost use mathlib.Core.Path.{_≡_};
 ghost use Rattle.jet.specs.Coefficients.{Upto, derivativeOf};
 ghost use Rattle.eos.specs.Jets.{pairOf};
 ghost use Rattle.eos.specs.Helmholtz.{aksOf, AkRoots};

@@ -1,6 +1,5 @@
 // `smallest_ev` of num_dual's linalg for a symmetric 2 by 2 matrix of jets, by document 02's rules, at positions 0 to 11.
 // Branches look at position 0.
-ghost use mathlib.Core.Path.{_≡_};
 ghost use Rattle.jet.specs.Coefficients.{Upto};
 ghost use Rattle.linear.specs.SmallestEv.{smallestOf, lengthOf, Smallest};
 use crate::types::Eigenpair;
