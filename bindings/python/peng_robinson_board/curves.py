@@ -237,7 +237,7 @@ def dome(blend: Blend, lowest_temperature: Optional[float] = None) -> Numbers:
     curve = _spinodal_curve(blend, lowest, top)
     if not curve:
         raise Usage("nothing to draw: no spinodal search (kind 4) converged")
-    notes = []
+    notes: List[str] = []
     of_blend = _blend_critical_point(blend)
     if not critical and not of_blend:
         notes.append(CRITICAL_POINT_NOT_FOUND if len(blend.components) == 2 else NO_CRITICAL_POINT)
