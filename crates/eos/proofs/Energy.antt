@@ -5,8 +5,7 @@ use Prim.Native.Nat.{ℕ, zero, suc, _+_, _*_, _≤_, _<_}
 use native.Mathlib.Omega.{arith}
 use mathlib.Core.List.{List}
 use lib.ListN.{take}
-use lib.Seq.{getD-take}
-use lib.Ieee.{Float, nan}
+use lib.Ieee.{Float}
 use Rattle.float.specs.Ops.{f0}
 use Rattle.jet.specs.Coefficients.{at, Upto, cut, numberOf, sumOf, productOf, quotientOf}
 use Rattle.jet.specs.Ops.{_⊞_, _⊠_, _⧄_}
@@ -15,8 +14,8 @@ use Rattle.jet.proofs.Depends.{sum-first, product-first, quotient-first}
 use Rattle.eos.specs.declared.types.Blend.{Blend}
 use Rattle.eos.specs.declared.types.Mixture.{Mixture}
 use Rattle.eos.specs.Indices.{foldFrom, jetTotal}
-use Rattle.eos.specs.Cubic.{nth, akOf, mixTerm, mixRow, akMix, bMix, contribution}
-use Rattle.eos.specs.Helmholtz.{partialDensity, molefracs, akMixOf, bMixOf, energyDensity, Mixes, helmholtz}
+use Rattle.eos.specs.Cubic.{nth, mixTerm, mixRow, akMix, bMix, contribution}
+use Rattle.eos.specs.Helmholtz.{aksOf, partialDensity, molefracs, akMixOf, bMixOf, energyDensity, Mixes, helmholtz}
 use Rattle.eos.proofs.Chain.{contribution-cong}
 use Rattle.eos.proofs.Totals.{total-cong, akMix-cong, bMix-cong}
 
@@ -34,14 +33,11 @@ b-one : (x : ℕ → List Float) (b : ℕ → Float) → x 0 ⊠ numberOf (b 0) 
 unfolding bMix jetTotal foldFrom
 b-one x b = refl
 
-abbrev aks : Blend → List Float → ℕ → List Float
-aks b t i = akOf t (nth (b .tc) i) (nth (b .kappa) i) (nth (b .a) i)
-
 abbrev kij : Blend → ℕ → ℕ → Float
 kij b i j = nth (b .«k_ij») (8 * i + j)
 
 pub alone-law : (w : ℕ) (b : Blend) (t v n : List Float) (density x ak none term a nb m : List Float)
-    → density ≡ cut w (quotientOf n v) → x ≡ cut w (quotientOf density density) → Upto w ak (aks b t 0) → Upto w term (mixTerm ak ak x x (nth (b .«k_ij») 0)) → none ≡ numberOf f0 → a ≡ sumOf none term → nb ≡ numberOf (nth (b .b) 0) → m ≡ cut w (productOf x nb)
+    → density ≡ cut w (quotientOf n v) → x ≡ cut w (quotientOf density density) → Upto w ak (aksOf b t 0) → Upto w term (mixTerm ak ak x x (nth (b .«k_ij») 0)) → none ≡ numberOf f0 → a ≡ sumOf none term → nb ≡ numberOf (nth (b .b) 0) → m ≡ cut w (productOf x nb)
     → Upto w density (jetTotal 1 (partialDensity (λ i. n) v)) × Upto w a (akMixOf b 1 t (partialDensity (λ i. n) v)) × Upto w m (bMixOf b 1 (partialDensity (λ i. n) v))
 unfolding partialDensity molefracs jetTotal foldFrom
 alone-law w b t v n density x ak none term a nb m ed ex eak et ez ea eb em =
@@ -51,20 +47,20 @@ alone-law w b t v n density x ak none term a nb m ed ex eak et ez ea eb em =
     let M = mul-upto w x x m refl nb (numberOf (nth (b .b) 0)) (ap (take w) eb) em ∙ ap (take w) (b-one (λ i. x) (nth (b .b))) in
     let X' : (i : ℕ) → i < 1 → Upto w x (molefracs 1 (partialDensity (λ i. n) v) i) = λ i l. X in (
       D,
-      A ∙ akMix-cong w 1 (λ i. ak) (aks b t) (λ i. x) (molefracs 1 (partialDensity (λ i. n) v)) (kij b) (only-first (λ i. Upto w ak (aks b t i)) eak) X',
+      A ∙ akMix-cong w 1 (λ i. ak) (aksOf b t) (λ i. x) (molefracs 1 (partialDensity (λ i. n) v)) (kij b) (only-first (λ i. Upto w ak (aksOf b t i)) eak) X',
       M ∙ bMix-cong w 1 (λ i. x) (molefracs 1 (partialDensity (λ i. n) v)) (nth (b .b)) (omega arith) X',
     )
 
 module _ (w n : ℕ) (h : 1 ≤ n) (b : Blend) where
   pub many-law : (t v : List Float) (moles ρ x ak : ℕ → List Float) (density a m : List Float)
-      → ((i : ℕ) → i < n → Upto w (ρ i) (moles i ⧄ v)) → density ≡ jetTotal n ρ → ((i : ℕ) → i < n → Upto w (x i) (ρ i ⧄ density)) → ((i : ℕ) → i < n → Upto w (ak i) (aks b t i)) → Upto w a (akMix n ak x (kij b)) → Upto w m (bMix n x (nth (b .b)))
+      → ((i : ℕ) → i < n → Upto w (ρ i) (moles i ⧄ v)) → density ≡ jetTotal n ρ → ((i : ℕ) → i < n → Upto w (x i) (ρ i ⧄ density)) → ((i : ℕ) → i < n → Upto w (ak i) (aksOf b t i)) → Upto w a (akMix n ak x (kij b)) → Upto w m (bMix n x (nth (b .b)))
       → Upto w density (jetTotal n (partialDensity moles v)) × Upto w a (akMixOf b n t (partialDensity moles v)) × Upto w m (bMixOf b n (partialDensity moles v))
   unfolding partialDensity molefracs
   many-law t v moles ρ x ak density a m er ed ex eak ea em =
       let D = ap (take w) ed ∙ total-cong w n ρ (partialDensity moles v) h er in
       let X : (i : ℕ) → i < n → Upto w (x i) (molefracs n (partialDensity moles v) i) = λ i l. ex i l ∙ quotient-first w (ρ i) (moles i ⧄ v) (er i l) density (jetTotal n (partialDensity moles v)) D in (
         D,
-        ea ∙ akMix-cong w n ak (aks b t) x (molefracs n (partialDensity moles v)) (kij b) eak X,
+        ea ∙ akMix-cong w n ak (aksOf b t) x (molefracs n (partialDensity moles v)) (kij b) eak X,
         em ∙ bMix-cong w n x (molefracs n (partialDensity moles v)) (nth (b .b)) h X,
       )
 
@@ -76,7 +72,7 @@ module _ (w n : ℕ) (h : 1 ≤ n) (b : Blend) where
       let D = total-cong w n (partialDensity moles v) (partialDensity moles' v) h R in
       let X : (i : ℕ) → i < n → Upto w (molefracs n (partialDensity moles v) i) (molefracs n (partialDensity moles' v) i) = λ i l. quotient-first w (moles i ⧄ v) (moles' i ⧄ v) (R i l) _ _ D in (
         em .0 ∙ D,
-        em .1 ∙ akMix-cong w n (aks b t) (aks b t) (molefracs n (partialDensity moles v)) (molefracs n (partialDensity moles' v)) (kij b) (λ i l. refl) X,
+        em .1 ∙ akMix-cong w n (aksOf b t) (aksOf b t) (molefracs n (partialDensity moles v)) (molefracs n (partialDensity moles' v)) (kij b) (λ i l. refl) X,
         em .2 ∙ bMix-cong w n (molefracs n (partialDensity moles v)) (molefracs n (partialDensity moles' v)) (nth (b .b)) h X,
       )
 
@@ -97,7 +93,7 @@ module _ (w n : ℕ) (h : 1 ≤ n) (b : Blend) where
       let D = total-cong w n ρ ρ' h e in
       let X : (i : ℕ) → i < n → Upto w (molefracs n ρ i) (molefracs n ρ' i) = λ i l. quotient-first w (ρ i) (ρ' i) (e i l) (jetTotal n ρ) (jetTotal n ρ') D in
       contribution-cong w (jetTotal n ρ) (jetTotal n ρ') _ _ _ _ t t D
-      (akMix-cong w n (aks b t) (aks b t) (molefracs n ρ) (molefracs n ρ') (kij b) (λ i l. refl) X) (bMix-cong w n (molefracs n ρ) (molefracs n ρ') (nth (b .b)) h X) refl
+      (akMix-cong w n (aksOf b t) (aksOf b t) (molefracs n ρ) (molefracs n ρ') (kij b) (λ i l. refl) X) (bMix-cong w n (molefracs n ρ) (molefracs n ρ') (nth (b .b)) h X) refl
 
   -- the first n of the mole numbers decide
   pub helmholtz-cong : (t v : List Float) (moles moles' : ℕ → List Float) → ((i : ℕ) → i < n → Upto w (moles i) (moles' i)) → Upto w (helmholtz b n t v moles) (helmholtz b n t v moles')
@@ -114,7 +110,3 @@ module _ (w n : ℕ) (h : 1 ≤ n) (b : Blend) where
       let E = energy-cong t (partialDensity moles v) (partialDensity moles v') (λ i l. quotient-first w (moles i) (moles i) refl v v' e) in
       let S = sum-first w (numberOf f0) (numberOf f0) refl _ _ E in
       product-first w _ _ (product-first w _ _ S t t refl) v v' e
-
--- a coefficient among the first w
-pub coefficient-of : (w m : ℕ) (a b : List Float) → m < w → Upto w a b → at a m ≡ at b m
-coefficient-of w m a b h e = sym (getD-take w a m nan h) ∙ ap (λ (l : List Float). at l m) e ∙ getD-take w b m nan h

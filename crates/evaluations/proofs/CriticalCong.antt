@@ -10,12 +10,12 @@ use lib.Ieee.{Float, eq}
 use Rattle.float.specs.Ops.{f0, f1}
 use Rattle.jet.specs.Coefficients.{at, Upto, numberOf, markedOf, logarithmOf, derivativeOf}
 use Rattle.jet.specs.Ops.{_⊞_, _⊟_, _⊠_, _⧄_}
-use Rattle.jet.proofs.Depends.{sum-first, difference-first, product-first, quotient-first, logarithm-first, derivative-first}
+use Rattle.jet.proofs.Depends.{taken, sum-first, difference-first, product-first, quotient-first, logarithm-first, derivative-first}
 use Rattle.linear.specs.SmallestEv.{half, smallestOf, vectorOf}
 use Rattle.linear.proofs.Eigenvectors.{smallest-cong, vector-cong}
 use Rattle.eos.specs.declared.types.Blend.{Blend}
 use Rattle.eos.specs.Cubic.{nth}
-use Rattle.eos.proofs.Energy.{helmholtz-cong, volume-cong, coefficient-of}
+use Rattle.eos.proofs.Energy.{helmholtz-cong, volume-cong}
 use Rattle.eos.proofs.Totals.{total-cong}
 use Rattle.evaluations.specs.Critical.{energyOverT, along, secondAlong, dmuDn, sqrtZ, matrix, eigenvalue, eigenvector, moved, movedAlong, idealTerm, idealGas, thirdDerivative}
 
@@ -36,7 +36,7 @@ moved-cong z u u' U = sum-first 12 (numberOf z) (numberOf z) refl _ _ (product-f
 
 ideal-cong : (n n' v v' : List Float) → Upto 12 n n' → Upto 12 v v' → Upto 12 (idealTerm n v) (idealTerm n' v')
 unfolding idealTerm
-ideal-cong n n' v v' N Vol = product-first 12 n n' N _ _ (rw (coefficient-of 12 0 n n' (omega arith) N) (branch (eq (at n' 0) f0)))
+ideal-cong n n' v v' N Vol = product-first 12 n n' N _ _ (rw (taken 12 0 n n' N (omega arith)) (branch (eq (at n' 0) f0)))
   where
     branch : (z : Bool) → Upto 12 (cond z (numberOf f0) (logarithmOf (n ⧄ v) ⊟ numberOf f1)) (cond z (numberOf f0) (logarithmOf (n' ⧄ v') ⊟ numberOf f1))
     branch true = refl

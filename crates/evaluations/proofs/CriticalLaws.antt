@@ -12,6 +12,7 @@ use Rattle.float.specs.Ops.{f0, f1}
 use Rattle.jet.specs.Coefficients.{at, Upto, cut, numberOf, markedOf, sumOf, differenceOf, productOf, quotientOf, recipOf, rootOf, logarithmOf, derivativeOf}
 use Rattle.jet.specs.Ops.{_⊞_, _⊠_}
 use Rattle.jet.proofs.Prefix.{add-upto, sub-upto, mul-upto, div-upto, sqrt-upto, ln-upto}
+use Rattle.jet.proofs.Depends.{taken}
 use Rattle.linear.specs.declared.types.Eigenpair.{Eigenpair}
 use Rattle.linear.specs.SmallestEv.{half, Smallest}
 use Rattle.linear.proofs.Eigenvectors.{smallest-cong, vector-cong}
@@ -20,7 +21,7 @@ use Rattle.eos.specs.Indices.{foldFrom, jetTotal}
 use Rattle.eos.specs.Jets.{pairOf}
 use Rattle.eos.specs.Cubic.{nth}
 use Rattle.eos.specs.Helmholtz.{helmholtz}
-use Rattle.eos.proofs.Energy.{only-first, coefficient-of}
+use Rattle.eos.proofs.Energy.{only-first}
 use Rattle.eos.proofs.Pair.{both}
 use Rattle.evaluations.specs.declared.types.Criticality.{Criticality}
 use Rattle.evaluations.specs.declared.types.Stability.{Stability}
@@ -101,8 +102,8 @@ module _ (b : Blend) (t v : List Float) where
 
   -- ---- two components
 
-  pub second-law : (n1 n2 a out : List Float) → Upto 12 a (energyOverT b 2 t v (pairOf n1 n2)) → out ≡ derivativeOf 2 a → Upto 12 out (derivativeOf 2 (energyOverT b 2 t v (pairOf n1 n2)))
-  second-law n1 n2 a out ea eo = is eo ∙ derivative-cong 2 a _ ea
+  pub second-derivative-law : (n1 n2 a out : List Float) → Upto 12 a (energyOverT b 2 t v (pairOf n1 n2)) → out ≡ derivativeOf 2 a → Upto 12 out (derivativeOf 2 (energyOverT b 2 t v (pairOf n1 n2)))
+  second-derivative-law n1 n2 a out ea eo = is eo ∙ derivative-cong 2 a _ ea
 
   in-direction : (d : ℕ → Bool) (n1 n2 h : List Float) → n1 ≡ along b d 0 → n2 ≡ along b d 1 → Upto 12 h (derivativeOf 2 (energyOverT b 2 t v (pairOf n1 n2))) → Upto 12 h (secondAlong b 2 t v d)
   unfolding secondAlong
@@ -140,9 +141,9 @@ module _ (b : Blend) (t v : List Float) where
       unfolding eigenvalue
       value-law = S .value ∙ smallest-cong 12 _ _ _ _ _ _ (M .first) (M .mixed) (M .second)
 
-      pub first-law : Upto 12 (e .u1 .c) (eigenvector b 2 t v 0)
+      pub first-entry-law : Upto 12 (e .u1 .c) (eigenvector b 2 t v 0)
       unfolding eigenvector
-      first-law = S .first ∙ vector-cong 12 _ _ _ _ _ _ (M .first) (M .mixed) (M .second) (omega arith) 0
+      first-entry-law = S .first ∙ vector-cong 12 _ _ _ _ _ _ (M .first) (M .mixed) (M .second) (omega arith) 0
 
       pub second-entry-law : Upto 12 (e .u2 .c) (eigenvector b 2 t v 1)
       unfolding eigenvector
@@ -197,12 +198,12 @@ module _ (b : Blend) (τ ρ : Float) (t v : List Float) (ev : Upto 12 v (recipOf
       let k = criticalCount b in
       let L : Upto 12 l (eigenvalue b k (markedOf 4 τ) volume) = el ∙ eigenvalue-volume b k (count-positive b) t v volume ev ∙ ap (λ (y : List Float). take 12 (eigenvalue b k y volume)) et in
       let C : Upto 12 c (thirdDerivative b k (markedOf 4 τ) volume) = ec ∙ third-volume b k (count-positive b) t v volume ev ∙ ap (λ (y : List Float). take 12 (thirdDerivative b k y volume)) et in
-      let ll : (m : ℕ) → m < 12 → at l m ≡ at (eigenvalue b k (markedOf 4 τ) volume) m = λ m h. coefficient-of 12 m l (eigenvalue b k (markedOf 4 τ) volume) h L in
-      let cc : (m : ℕ) → m < 12 → at c m ≡ at (thirdDerivative b k (markedOf 4 τ) volume) m = λ m h. coefficient-of 12 m c (thirdDerivative b k (markedOf 4 τ) volume) h C in
+      let ll : (m : ℕ) → m < 12 → at l m ≡ at (eigenvalue b k (markedOf 4 τ) volume) m = λ m h. taken 12 m l (eigenvalue b k (markedOf 4 τ) volume) L h in
+      let cc : (m : ℕ) → m < 12 → at c m ≡ at (thirdDerivative b k (markedOf 4 τ) volume) m = λ m h. taken 12 m c (thirdDerivative b k (markedOf 4 τ) volume) C h in
       rw (ll 0 (omega arith), ll 4 (omega arith), ll 8 (omega arith), cc 0 (omega arith), cc 4 (omega arith), cc 8 (omega arith))
 
   pub stability-law : (l : List Float) → t ≡ numberOf τ → Upto 12 l (eigenvalue b 1 t v) → _≡_ {A = Stability} (record { f = at l 0; df = at l 8 }) (stabilityCondition b τ ρ)
   unfolding stabilityCondition
   stability-law l et el =
       let L : Upto 12 l (eigenvalue b 1 (numberOf τ) volume) = el ∙ eigenvalue-volume b 1 (omega arith) t v volume ev ∙ ap (λ (y : List Float). take 12 (eigenvalue b 1 y volume)) et in
-      rw (coefficient-of 12 0 l (eigenvalue b 1 (numberOf τ) volume) (omega arith) L, coefficient-of 12 8 l (eigenvalue b 1 (numberOf τ) volume) (omega arith) L)
+      rw (taken 12 0 l (eigenvalue b 1 (numberOf τ) volume) L (omega arith), taken 12 8 l (eigenvalue b 1 (numberOf τ) volume) L (omega arith))

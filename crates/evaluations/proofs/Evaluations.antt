@@ -8,12 +8,13 @@ use lib.Ieee.{Float, ofInt, ofBits}
 use Rattle.float.specs.Ops.{_⊕_, _⊖_, _⊗_, _⊘_, f0, f1}
 use Rattle.float.specs.Ln.{lnOf}
 use Rattle.jet.specs.Coefficients.{at, Upto, numberOf, markedOf, factorial, factorialOf}
+use Rattle.jet.proofs.Depends.{taken}
 use Rattle.eos.specs.declared.types.Blend.{Blend}
 use Rattle.evaluations.specs.declared.types.Pressure.{Pressure}
 use Rattle.eos.specs.Cubic.{nth, componentsOf}
 use Rattle.eos.specs.Helmholtz.{helmholtz}
 use Rattle.evaluations.specs.Residual.{alongVolume, derived, pressureFrom, slopeFrom, curvatureFrom, pDpdrho, pDpdrhoD2pdrho2, chemicalPotential}
-use Rattle.eos.proofs.Energy.{helmholtz-cong, coefficient-of}
+use Rattle.eos.proofs.Energy.{helmholtz-cong}
 
 pub along-law : (b : Blend) (t v : Float) (n : ℕ) (T U : List Float) (moles : ℕ → List Float) (out : List Float)
     → 1 ≤ n → n ≡ componentsOf b → T ≡ numberOf t → U ≡ markedOf 1 v → ((i : ℕ) → i < n → moles i ≡ numberOf (nth (b .x) i)) → Upto 4 out (helmholtz b n T U moles)
@@ -28,7 +29,7 @@ along-law b t v n T U moles out h en et ev em eo =
 
 derived-of : (k : ℕ) (a b : List Float) → k < 4 → Upto 4 a b → derived k a ≡ derived k b
 unfolding derived
-derived-of k a b h e = ap (λ (x : Float). factorialOf k ⊗ x) (coefficient-of 4 k a b h e)
+derived-of k a b h e = ap (λ (x : Float). factorialOf k ⊗ x) (taken 4 k a b e h)
 
 module _ (b : Blend) (t ρ : Float) (a : List Float) (e : Upto 4 a (alongVolume b t (f1 ⊘ ρ))) where
   first : derived 1 a ≡ derived 1 (alongVolume b t (f1 ⊘ ρ))
@@ -67,4 +68,4 @@ module _ (b : Blend) (t ρ : Float) (a : List Float) (e : Upto 4 a (alongVolume 
 
   pub potential-law : (l : Float) → l ≡ lnOf ρ → at a 0 ⊖ f1 ⊗ at a 1 ⊗ (f1 ⊘ ρ) ⊕ t ⊗ l ≡ chemicalPotential b t ρ
   unfolding chemicalPotential
-  potential-law l el = rw (el, one-times, first, coefficient-of 4 0 a (alongVolume b t (f1 ⊘ ρ)) (omega arith) e)
+  potential-law l el = rw (el, one-times, first, taken 4 0 a (alongVolume b t (f1 ⊘ ρ)) e (omega arith))

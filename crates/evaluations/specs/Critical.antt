@@ -24,6 +24,7 @@ energyOverT b n t v moles = helmholtz b n t v moles ⧄ t
 unfoldable pub along : Blend → (direction : ℕ → Bool) → ℕ → List Float
 along b direction i = cond (direction i) (markedOf 1 (nth (b .x) i)) (numberOf (nth (b .x) i))
 
+-- the second derivative in a direction
 unfoldable pub secondAlong : Blend → (n : ℕ) → List Float → List Float → (direction : ℕ → Bool) → List Float
 secondAlong b n t v direction = derivativeOf 2 (energyOverT b n t v (along b direction))
 

@@ -101,7 +101,8 @@ module _ (m : ℕ) (h : m < positions) (a a' : List Float) (A : Same m a a') whe
 no-larger : (p m : ℕ) → notAbove p m ≡ true → p ≤ m
 no-larger p m e = let t = told p m e in let i = t .in0 in let j = t .in1 in let k = t .in2 in omega arith
 
-taken : (n p : ℕ) (a b : List Float) → take n a ≡ take n b → p < n → at a p ≡ at b p
+-- a coefficient among the first n
+pub taken : (n p : ℕ) (a b : List Float) → take n a ≡ take n b → p < n → at a p ≡ at b p
 taken n p a b e h = sym (getD-take n a p nan h) ∙ ap (λ (l : List Float). at l p) e ∙ getD-take n b p nan h
 
 same : (n m : ℕ) (a b : List Float) → take n a ≡ take n b → m < n → Same m a b

@@ -5,14 +5,13 @@ use Prim.Native.Nat.{ℕ, _≤_}
 use mathlib.Core.Bool.{Bool, true, false, cond}
 use mathlib.Core.List.{List}
 use lib.ListN.{take}
-use lib.Seq.{getD-take}
 use lib.Dec.{eqb}
-use lib.Ieee.{Float, nan, eq, le}
+use lib.Ieee.{Float, eq, le}
 use Rattle.float.specs.Ops.{f0, f1, f4}
 use Rattle.jet.specs.Coefficients.{at, Upto, cut, numberOf, sumOf, differenceOf, productOf, quotientOf, rootOf}
 use Rattle.jet.specs.Ops.{_⊞_, _⊟_, _⊠_, _⧄_}
 use Rattle.jet.proofs.Prefix.{add-upto, sub-upto, mul-upto, div-upto, sqrt-upto}
-use Rattle.jet.proofs.Depends.{sum-first, difference-first, product-first, quotient-first, root-first}
+use Rattle.jet.proofs.Depends.{taken, sum-first, difference-first, product-first, quotient-first, root-first}
 use Rattle.linear.specs.declared.types.Eigenpair.{Eigenpair}
 use Rattle.linear.specs.SmallestEv.{half, smallestOf, lengthOf, unitOf, vectorOf, Smallest}
 
@@ -64,8 +63,7 @@ module _ (w : ℕ) where
     pub vector-cong : 1 ≤ w → (i : ℕ) → Upto w (vectorOf m11 m12 m22 i) (vectorOf m11' m12' m22' i)
     unfolding vectorOf
     vector-cong h i =
-        let head : (a b : List Float) → Upto w a b → at a 0 ≡ at b 0 = λ a b e. sym (getD-take w a 0 nan h) ∙ ap (λ (l : List Float). at l 0) e ∙ getD-take w b 0 nan h in
-        rw (head m12 m12' M12, head m11 m11' M11, head m22 m22' M22) (branch (eq (at m12' 0) f0))
+        rw (taken w 0 m12 m12' M12 h, taken w 0 m11 m11' M11 h, taken w 0 m22 m22' M22 h) (branch (eq (at m12' 0) f0))
       where
         branch : (z : Bool)
             → Upto w (cond z (unitOf (cond (le (at m11' 0) (at m22' 0)) 0 1) i) (cond (eqb i 0) m12 (smallestOf m11 m12 m22 ⊟ m11) ⧄ lengthOf m12 (smallestOf m11 m12 m22 ⊟ m11)))
@@ -76,13 +74,13 @@ module _ (w : ℕ) where
 -- ---- the branches of `smallest_ev`
 
 module _ (w : ℕ) (m11 m12 m22 : List Float) (e : Eigenpair) (L : Upto w (e .l .c) (smallestOf m11 m12 m22)) where
-  pub first-law : eq (at m12 0) f0 ≡ true → le (at m11 0) (at m22 0) ≡ true → e .u1 .c ≡ numberOf f1 → e .u2 .c ≡ numberOf f0 → Smallest w m11 m12 m22 e
+  pub first-unit-law : eq (at m12 0) f0 ≡ true → le (at m11 0) (at m22 0) ≡ true → e .u1 .c ≡ numberOf f1 → e .u2 .c ≡ numberOf f0 → Smallest w m11 m12 m22 e
   unfolding vectorOf unitOf
-  first-law z g e1 e2 = record { value = L; first = rw (z, g, e1); second = rw (z, g, e2) }
+  first-unit-law z g e1 e2 = record { value = L; first = rw (z, g, e1); second = rw (z, g, e2) }
 
-  pub second-law : eq (at m12 0) f0 ≡ true → le (at m11 0) (at m22 0) ≡ false → e .u1 .c ≡ numberOf f0 → e .u2 .c ≡ numberOf f1 → Smallest w m11 m12 m22 e
+  pub second-unit-law : eq (at m12 0) f0 ≡ true → le (at m11 0) (at m22 0) ≡ false → e .u1 .c ≡ numberOf f0 → e .u2 .c ≡ numberOf f1 → Smallest w m11 m12 m22 e
   unfolding vectorOf unitOf
-  second-law z g e1 e2 = record { value = L; first = rw (z, g, e1); second = rw (z, g, e2) }
+  second-unit-law z g e1 e2 = record { value = L; first = rw (z, g, e1); second = rw (z, g, e2) }
 
   pub scaled-law : (y size : List Float) → eq (at m12 0) f0 ≡ false → y ≡ differenceOf (e .l .c) m11 → Upto w size (lengthOf m12 y) → e .u1 .c ≡ cut w (quotientOf m12 size) → e .u2 .c ≡ cut w (quotientOf y size) → Smallest w m11 m12 m22 e
   unfolding vectorOf

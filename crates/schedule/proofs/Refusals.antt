@@ -46,7 +46,7 @@ count-true kind n c = go (eqb kind 7) refl
     go true k = eq-eqb n 2 (c .of-seven (eqb-true kind 7 k))
     go false k = inside-true 1 8 n (c .in-range)
 
-count-false : (kind n : ℕ) → CountWrong kind n → countFits kind n ≡ false
+pub count-false : (kind n : ℕ) → CountWrong kind n → countFits kind n ≡ false
 unfolding countFits
 count-false kind n (CountWrong.of-seven k m) = rw (eq-eqb kind 7 k, ne-eqb n 2 m)
 count-false kind n (out-of-range o) = go (eqb kind 7)

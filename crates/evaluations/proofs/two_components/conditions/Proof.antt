@@ -1,5 +1,5 @@
 -- `evaluations::two_components::conditions` meets its contract. Assumes nothing.
-use Rattle.evaluations.proofs.CriticalLaws.{value-law, first-law, second-entry-law}
+use Rattle.evaluations.proofs.CriticalLaws.{value-law, first-entry-law, second-entry-law}
 use borrow.Author.Needs.{needs}
 use Rattle.evaluations.proofs.two_components.conditions.Statement.{statement}
 use Rattle.evaluations.proofs.two_components.conditions.Tie as tie
@@ -16,7 +16,7 @@ smallest-ev-requires c κs = search needs
 third-derivative-requires : tie.Need-third-derivative-requires
 third-derivative-requires c κs =
     let a = c .before .before .before .before .before .before .before .before .before .args in
-    (c .before .before .before .before .before .before .before .before .ak-roots .ensures, first-law (a .blend) (a .t .c) (a .v .c) (c .before .before .before .before .before .before .before .matrix .result) (c .before .before .before .smallest-ev .result) (c .before .before .before .before .before .before .before .matrix .ensures) (c .before .before .before .smallest-ev .ensures), second-entry-law (a .blend) (a .t .c) (a .v .c) (c .before .before .before .before .before .before .before .matrix .result) (c .before .before .before .smallest-ev .result) (c .before .before .before .before .before .before .before .matrix .ensures) (c .before .before .before .smallest-ev .ensures))
+    (c .before .before .before .before .before .before .before .before .ak-roots .ensures, first-entry-law (a .blend) (a .t .c) (a .v .c) (c .before .before .before .before .before .before .before .matrix .result) (c .before .before .before .smallest-ev .result) (c .before .before .before .before .before .before .before .matrix .ensures) (c .before .before .before .smallest-ev .ensures), second-entry-law (a .blend) (a .t .c) (a .v .c) (c .before .before .before .before .before .before .before .matrix .result) (c .before .before .before .smallest-ev .result) (c .before .before .before .before .before .before .before .matrix .ensures) (c .before .before .before .smallest-ev .ensures))
 
 returns : tie.Need-returns
 returns c =

@@ -1,5 +1,5 @@
 -- `evaluations::two_components::second` meets its contract. Assumes nothing.
-use Rattle.evaluations.proofs.CriticalLaws.{second-law}
+use Rattle.evaluations.proofs.CriticalLaws.{second-derivative-law}
 use borrow.Author.Needs.{needs}
 use Rattle.evaluations.proofs.two_components.second.Statement.{statement}
 use Rattle.evaluations.proofs.two_components.second.Tie as tie
@@ -13,7 +13,7 @@ derivative-requires c κs = search needs
 returns : tie.Need-returns
 returns c =
     let a = c .before .before .args in
-    second-law (a .blend) (a .t .c) (a .v .c) (a .n1 .c) (a .n2 .c) (c .before .energy-over-t .result .c) _ (c .before .energy-over-t .ensures) (c .derivative .ensures)
+    second-derivative-law (a .blend) (a .t .c) (a .v .c) (a .n1 .c) (a .n2 .c) (c .before .energy-over-t .result .c) _ (c .before .energy-over-t .ensures) (c .derivative .ensures)
 
 pub second-spec : {M : Type 1} → statement M
 second-spec = tie.close (tie.spec energy-over-t-requires derivative-requires returns)

@@ -1,5 +1,5 @@
 -- `linear::eigen::smallest_ev` meets its contract. Assumes nothing.
-use Rattle.linear.proofs.Eigenvectors.{first-law, second-law, scaled-law}
+use Rattle.linear.proofs.Eigenvectors.{first-unit-law, second-unit-law, scaled-law}
 use borrow.Author.Needs.{needs}
 use Rattle.linear.proofs.eigen.smallest_ev.Statement.{statement}
 use Rattle.linear.proofs.eigen.smallest_ev.Tie as tie
@@ -24,7 +24,7 @@ number-requires-2 c κs = search needs
 
 returns : tie.Need-returns
 returns c =
-    first-law 12 _ _ _ _ (c .before .before .before .before .before .before .before .smallest .ensures) (c .before .before .before .before .before .if1 .taken) (c .before .before .if2 .taken) (c .before .number .ensures) (c .number2 .ensures)
+    first-unit-law 12 _ _ _ _ (c .before .before .before .before .before .before .before .smallest .ensures) (c .before .before .before .before .before .if1 .taken) (c .before .before .if2 .taken) (c .before .number .ensures) (c .number2 .ensures)
 
 number-requires-3 : tie.Need-number-requires-3
 number-requires-3 c κs = search needs
@@ -34,7 +34,7 @@ number-requires-4 c κs = search needs
 
 returns-2 : tie.Need-returns-2
 returns-2 c =
-    second-law 12 _ _ _ _ (c .before .before .before .before .before .before .before .smallest .ensures) (c .before .before .before .before .before .if1 .taken) (c .before .before .if2 .left) (c .before .number3 .ensures) (c .number4 .ensures)
+    second-unit-law 12 _ _ _ _ (c .before .before .before .before .before .before .before .smallest .ensures) (c .before .before .before .before .before .if1 .taken) (c .before .before .if2 .left) (c .before .number3 .ensures) (c .number4 .ensures)
 
 sub-requires : tie.Need-sub-requires
 sub-requires c κs = search needs
