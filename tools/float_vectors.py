@@ -3,9 +3,9 @@
 
 usage: tools/float_vectors.py        run at the project's root; writes both files
 
-The square root is the machine's, by math.sqrt. The logarithm is document 01's rule worked in Python's floats, which are
-binary64 and round each operation to nearest even; significand and exponent come from math.frexp. Nothing here is
-taken from the crate `float`.
+The square root is the machine's, by math.sqrt. The logarithm is document 01's rule with document 02's split (P4), worked
+in Python's floats, which are binary64 and round each operation to nearest even; significand and exponent come from
+math.frexp. Nothing here is taken from the crate `float`.
 """
 import math
 import random
@@ -14,6 +14,8 @@ import struct
 NAN = 0x7FF8000000000000
 SIGN = 1 << 63
 TOP = 0x7FF0000000000000
+LN_2_HIGH = 0x3FE62E42FEE00000
+LN_2_LOW = 0x3DEA39EF35793C76
 
 
 def value(bits):
@@ -44,7 +46,7 @@ def ln(x):
     h = 1 / 21
     for k in range(9, -1, -1):
         h = h * z + 1 / (2 * k + 1)
-    return e * value(0x3FE62E42FEFA39EF) + (2 * s) * h
+    return e * value(LN_2_HIGH) + (e * value(LN_2_LOW) + (2 * s) * h)
 
 
 def greater(x, y):
@@ -112,4 +114,5 @@ def main():
     print(len(line), "patterns")
 
 
-main()
+if __name__ == "__main__":
+    main()

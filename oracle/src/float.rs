@@ -1,5 +1,5 @@
-//! Document 01's stand-ins on plain floats: logarithm, `max`, `min`, sign tests, norm and the 2 by 2 solve.
-//! All NaNs count as one value, so a NaN's sign is never looked at.
+//! Document 01's stand-ins on plain floats: logarithm, with document 02's split, `max`, `min`, sign tests, norm and the
+//! 2 by 2 solve. All NaNs count as one value, so a NaN's sign is never looked at.
 
 /// The one NaN as it is printed.
 pub const NAN_BITS: u64 = 0x7FF8_0000_0000_0000;
@@ -41,7 +41,13 @@ pub fn is_sign_positive(x: f64) -> bool {
     !is_sign_negative(x)
 }
 
-/// Logarithm of x = M * 2^E with M in [1, 2): halved M above the root of 2, then the series of (M - 1)/(M + 1).
+/// ln 2 in two parts (document 02, P4): the high one ends in 21 zero bits, so that E times it is exact.
+const LN_2_HIGH: f64 = f64::from_bits(0x3FE6_2E42_FEE0_0000);
+const LN_2_LOW: f64 = f64::from_bits(0x3DEA_39EF_3579_3C76);
+
+/// Document 01's logarithm with document 02's split (P4). x = M * 2^E with M in [1, 2); if M is at least the float below,
+/// M is halved and E one more. With s = (M - 1)/(M + 1) and h the series 1 + s^2/3 + ... + s^20/21, from its last term:
+/// E * high + (E * low + (2 * s) * h).
 pub fn ln(x: f64) -> f64 {
     if x.is_nan() {
         return x;
@@ -66,8 +72,8 @@ pub fn ln(x: f64) -> f64 {
     for k in (0..=9).rev() {
         h = h * z + 1.0 / f64::from(2 * k + 1);
     }
-    let l = f64::from_bits(0x3FE6_2E42_FEFA_39EF);
-    f64::from(e) * l + (2.0 * s) * h
+    let e = f64::from(e);
+    e * LN_2_HIGH + (e * LN_2_LOW + (2.0 * s) * h)
 }
 
 /// M in [1, 2) and E with x = M * 2^E, for a finite positive x.

@@ -5,11 +5,11 @@ use oracle::float::bits;
 use oracle::generate::requests;
 use oracle::show::{select, show, Census};
 use oracle::vectors::{
-    eval_cases, eval_fits, eval_record, jet_cases, jet_operation, words, EvalCase, JetCase,
-    JET_RECORD,
+    eval_cases, eval_fits, eval_record, float_line, jet_cases, jet_operation, words, EvalCase,
+    JetCase, JET_RECORD,
 };
 use oracle::{run_request, trace_request, BLOCK, REQUEST};
-use std::io::{self, BufWriter, Read, Write};
+use std::io::{self, BufRead, BufWriter, Read, Write};
 use std::process::ExitCode;
 
 const USAGE: &str = "\
@@ -25,7 +25,8 @@ usage: oracle                          answer one request on standard input
        oracle --jets-bin SEED COUNT    the same operations in bytes
        oracle --jets-run               results of jet operations in bytes
        oracle --evals SEED COUNT       single evaluations in bytes
-       oracle --evals-run              results of single evaluations in bytes";
+       oracle --evals-run              results of single evaluations in bytes
+       oracle --floats-run             roots and logarithms of floats, lines of 16 hexadecimal digits";
 
 /// Fills the buffer as far as the input goes; gives the bytes read.
 fn read_full(input: &mut impl Read, buffer: &mut [u8]) -> io::Result<usize> {
@@ -136,6 +137,15 @@ fn evals_run(input: &mut impl Read, out: &mut impl Write) -> io::Result<()> {
     }
 }
 
+fn floats_run(input: &mut impl BufRead, out: &mut impl Write) -> io::Result<()> {
+    for line in input.lines() {
+        let answer =
+            float_line(&line?).ok_or_else(|| invalid("a line other than 16 hexadecimal digits"))?;
+        writeln!(out, "{answer}")?;
+    }
+    Ok(())
+}
+
 fn run(arguments: &[String]) -> io::Result<bool> {
     let mut input = io::stdin().lock();
     let mut out = BufWriter::new(io::stdout().lock());
@@ -148,6 +158,7 @@ fn run(arguments: &[String]) -> io::Result<bool> {
         ["--show"] => show_all(&mut input, &mut out)?,
         ["--jets-run"] => jets_run(&mut input, &mut out)?,
         ["--evals-run"] => evals_run(&mut input, &mut out)?,
+        ["--floats-run"] => floats_run(&mut input, &mut out)?,
         ["--select", seed, count, each] => {
             let (Some(seed), Some(count), Some(each)) = (number(seed), number(count), number(each))
             else {

@@ -1,4 +1,5 @@
-//! Makers of test input for single jet operations and single evaluations, and what the oracle answers to it.
+//! Makers of test input for single jet operations and single evaluations, and what the oracle answers to it; roots and
+//! logarithms of floats in words.
 
 use crate::critical_point::{criticality, stability};
 use crate::cubic::{PengRobinson, PengRobinsonRecord};
@@ -150,6 +151,16 @@ impl JetCase {
             format!("{name} {} {}", words(&self.a.c), words(&result.c))
         }
     }
+}
+
+/// For a float's bits in 16 hexadecimal digits, those of its root and its logarithm, in lower case; `None` for another line.
+pub fn float_line(line: &str) -> Option<String> {
+    if line.len() != 16 || !line.bytes().all(|digit| digit.is_ascii_hexdigit()) {
+        return None;
+    }
+    let x = f64::from_bits(u64::from_str_radix(line, 16).ok()?);
+    let (root, logarithm) = (float::bits(x.sqrt()), float::bits(float::ln(x)));
+    Some(format!("{root:016x} {logarithm:016x}"))
 }
 
 fn float_at(bytes: &[u8], at: usize) -> f64 {

@@ -1,36 +1,7 @@
-//! Document 01's near cases and the rules of its stand-ins on plain floats.
+//! Document 01's near cases and the rules of its stand-ins on plain floats. The logarithm's are in `logarithm.rs`.
 
-use oracle::float::{bits, ln, max, min, solve};
+use oracle::float::{bits, max, min, solve};
 use oracle::{run_request, Jet, BLOCK};
-
-const L: u64 = 0x3FE6_2E42_FEFA_39EF;
-
-#[test]
-fn logarithm() {
-    assert_eq!(ln(1.0).to_bits(), 0);
-    assert_eq!(ln(2.0).to_bits(), L);
-    assert_eq!(ln(0.5).to_bits(), L | 1 << 63);
-    assert_eq!(ln(0.0), f64::NEG_INFINITY);
-    assert_eq!(ln(-0.0), f64::NEG_INFINITY);
-    assert!(ln(-5e-324).is_nan() && ln(f64::NEG_INFINITY).is_nan() && ln(f64::NAN).is_nan());
-    assert_eq!(ln(f64::INFINITY), f64::INFINITY);
-    // powers of two are E * L, subnormals included
-    for e in -1074..=1023 {
-        // in two halves: powi of a large negative exponent is 1 over infinity
-        let x = 2f64.powi(e / 2) * 2f64.powi(e - e / 2);
-        assert_eq!(ln(x), f64::from(e) * f64::from_bits(L), "2^{e}");
-    }
-    // close to the machine's logarithm elsewhere
-    for i in 1..2000 {
-        for x in [i as f64 * 0.37, 1.0 + i as f64 * 1e-9, 1e-310 * i as f64] {
-            let (ours, theirs) = (ln(x), x.ln());
-            assert!(
-                (ours - theirs).abs() <= 4e-16 * theirs.abs().max(1.0),
-                "{x}"
-            );
-        }
-    }
-}
 
 #[test]
 fn root() {
