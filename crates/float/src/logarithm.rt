@@ -41,10 +41,11 @@ fn exponent(j: u64) -> f64
     }
 }
 
+// ln 2 in two parts: the first ends in zeros, so that e times it is exact.
 fn combined(e: f64, s: f64, h: f64) -> f64
     ensures { λ r. ⌜ r ≡ combined e s h ⌝ }
 {
-    e * 0.6931471805599453 + 2.0 * s * h
+    e * 0.6931471803691238 + (e * 0.00000000019082149292705877 + 2.0 * s * h)
 }
 
 // The logarithm of m * 2 ^ (j - 1074), for an m from √½ to √2.

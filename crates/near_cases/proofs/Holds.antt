@@ -22,6 +22,7 @@ use Rattle.near_cases.specs.NearCases.{FloatCases, JetCases, SumCases, s
 float-cases : FloatCases
 unfolding root floatRootOf sticky isqrt isqrtIn lnOf lnUnits lnAt reducedLn series horner oddRecip above ofBits ofInt neg size round add sub mul div le
 float-cases = record {
+  parts-of-L = refl;
   ln-of-1 = refl;
   ln-of-2 = refl;
   ln-of-half = refl;

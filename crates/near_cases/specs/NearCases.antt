@@ -7,9 +7,9 @@ use mathlib.Core.List.{List, [], _∷_, map}
 use lib.ListN.{length, replicate}
 use lib.IntN.{ℤ, pos, negsuc}
 use lib.Ieee.{Float, inf, fin, neg, binary64, ofBits}
-use Rattle.float.specs.Ops.{f0, f1, f2}
+use Rattle.float.specs.Ops.{_⊕_, f0, f1, f2}
 use Rattle.float.specs.Root.{root}
-use Rattle.float.specs.Ln.{ln2, lnOf}
+use Rattle.float.specs.Ln.{ln2High, ln2Low, lnOf}
 use Rattle.schedule.specs.Schedule.{Submit}
 use Rattle.board_spec.specs.Run.{Bytes, Calls, Public, refusal, ticketed, zeroBoard, replies, publicOf}
 use Rattle.block.specs.Checks.{nearOne, sumFits}
@@ -20,8 +20,13 @@ use Rattle.jet.specs.Coefficients.{markedOf, recipOf, rootOf, logarithmOf}
 abbrev pub twoTo : ℤ → Float
 twoTo e = fin false 1 e
 
--- "ln 1 = +0; ln 2 has L's bits; ln 0.5 is −L." "root of 4 is 2; of 2^−1074 is 2^−537; of −0 is −0."
+-- "L having bits 3FE62E42FEFA39EF"
+abbrev pub ln2 : Float
+ln2 = ofBits binary64 0x3fe6_2e42_fefa_39ef
+
+-- "ln 1 = +0; ln 2 has L's bits; ln 0.5 is −L." L's two parts add up to it. "root of 4 is 2; of 2^−1074 is 2^−537; of −0 is −0."
 pub record FloatCases : Type 0 where
+  pub parts-of-L : ln2High ⊕ ln2Low ≡ ln2
   pub ln-of-1 : lnOf f1 ≡ f0
   pub ln-of-2 : lnOf f2 ≡ ln2
   pub ln-of-half : lnOf (twoTo (negsuc 0)) ≡ neg ln2

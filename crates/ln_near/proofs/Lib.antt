@@ -1,0 +1,11 @@
+pub mod Fractions
+pub mod Rounded
+pub mod Operations
+pub mod Close
+pub mod Steps
+pub mod Series
+pub mod Reduced
+pub mod Ends
+pub mod Encloses
+pub mod Near
+pub mod Sharp
