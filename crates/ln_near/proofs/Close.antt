@@ -94,20 +94,11 @@ exact-at x y d h = omega arith
 none-close : (U : ℕ) → Close U none 0 0
 none-close U = omega arith
 
-pub plus-close : (r : Float) (o : Bool) (g : ℕ) → HasValue r o g (2 ^ 1074) → Close (2 ^ 1074) (valueOf r .plus) (plus o g) 0
+pub value-close : (r : Float) (o : Bool) (g : ℕ) → HasValue r o g (2 ^ 1074) → Close (2 ^ 1074) (valueOf r .plus) (plus o g) 0 × Close (2 ^ 1074) (valueOf r .minus) (minus o g) 0
 unfolding valueOf
-plus-close nan o g v = absurd v
-plus-close (inf s) o g v = absurd v
-plus-close (fin false m e) false g v = exact-at (m * up e * 2 ^ 1074) (g * down e) (down e) (v .1)
-plus-close (fin false m e) true g v = absurd (false≢true (v .0))
-plus-close (fin true m e) false g v = absurd (true≢false (v .0))
-plus-close (fin true m e) true g v = none-close (2 ^ 1074)
-
-pub minus-close : (r : Float) (o : Bool) (g : ℕ) → HasValue r o g (2 ^ 1074) → Close (2 ^ 1074) (valueOf r .minus) (minus o g) 0
-unfolding valueOf
-minus-close nan o g v = absurd v
-minus-close (inf s) o g v = absurd v
-minus-close (fin false m e) false g v = none-close (2 ^ 1074)
-minus-close (fin false m e) true g v = absurd (false≢true (v .0))
-minus-close (fin true m e) false g v = absurd (true≢false (v .0))
-minus-close (fin true m e) true g v = exact-at (m * up e * 2 ^ 1074) (g * down e) (down e) (v .1)
+value-close nan o g v = absurd v
+value-close (inf s) o g v = absurd v
+value-close (fin false m e) false g v = (exact-at (m * up e * 2 ^ 1074) (g * down e) (down e) (v .1), none-close (2 ^ 1074))
+value-close (fin false m e) true g v = absurd (false≢true (v .0))
+value-close (fin true m e) false g v = absurd (true≢false (v .0))
+value-close (fin true m e) true g v = (none-close (2 ^ 1074), exact-at (m * up e * 2 ^ 1074) (g * down e) (down e) (v .1))

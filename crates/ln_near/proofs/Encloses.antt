@@ -6,7 +6,7 @@ use native.Mathlib.Nat.{le-trans, le-of-eq, le-of-lt, lt-of-le-of-lt, mul-pos, m
 use native.Mathlib.Omega.{arith}
 use lib.Pow.{pow-pos}
 use Rattle.ln_near.specs.Fractions.{Frac, _+ᶠ_, times, _≤ᶠ_, Number, Proper, AtMost}
-use Rattle.ln_near.specs.LnNear.{term, terms, tail, withoutTail, withTail, lnLower, lnUpper, Enclosed}
+use Rattle.ln_near.specs.LnNear.{term, terms, tail, withoutTail, withTail, lnEnd, lnLower, lnUpper, Enclosed}
 use Rattle.ln_near.proofs.Fractions.{sum-le, times-le, at-most, at-most-refl, at-most-trans}
 use Rattle.ln_near.proofs.Series.{terms-pos, pow-next, odd-pos}
 
@@ -106,11 +106,7 @@ module _ (a b : ℕ) (l : a < b) where
 third : 1 < 3
 third = omega arith
 
--- e times a fraction for ln 2 and a fraction for ln M
-side-le : (e : ℕ) (f f' g g' : Frac) → f ≤ᶠ f' → g ≤ᶠ g' → times e f +ᶠ g ≤ᶠ times e f' +ᶠ g'
-side-le e f f' g g' h k = sum-le (times e f) g (times e f') g' (times-le e f f' h) k
-
-module _ (k n p : ℕ) (N : 0 < n) where
+module _ (n p : ℕ) (N : 0 < n) where
   above : n - 2 ^ p < n + 2 ^ p
   above = go (2 ^ p) (pow-pos p)
     where
@@ -123,45 +119,50 @@ module _ (k n p : ℕ) (N : 0 < n) where
       go : (q : ℕ) → q - n < n + q
       go q = omega (arith, N)
 
-  pub lower-proper : Proper (lnLower k n p)
-  unfolding lnLower
-  lower-proper = (mul-pos (without-proper 1 3 third k) (without-proper (n - 2 ^ p) (n + 2 ^ p) above k), mul-pos (with-proper 1 3 third k) (with-proper (2 ^ p - n) (n + 2 ^ p) below k))
+  -- an end's denominators, and which of two ends is the lower, from those of its fractions for any s below 1
+  end-proper : (over under : ℕ → ℕ → Frac) → ((a b : ℕ) → a < b → 0 < over a b .den) → ((a b : ℕ) → a < b → 0 < under a b .den) → Proper (lnEnd over under n p)
+  unfolding lnEnd
+  end-proper over under h k = (mul-pos (h 1 3 third) (h (n - 2 ^ p) (n + 2 ^ p) above), mul-pos (k 1 3 third) (k (2 ^ p - n) (n + 2 ^ p) below))
 
-  pub upper-proper : Proper (lnUpper k n p)
-  unfolding lnUpper
-  upper-proper = (mul-pos (with-proper 1 3 third k) (with-proper (n - 2 ^ p) (n + 2 ^ p) above k), mul-pos (without-proper 1 3 third k) (without-proper (2 ^ p - n) (n + 2 ^ p) below k))
+  side-le : (e : ℕ) (f g : ℕ → ℕ → Frac) (a b : ℕ) → a < b → ((a b : ℕ) → a < b → f a b ≤ᶠ g a b) → times e (f 1 3) +ᶠ f a b ≤ᶠ times e (g 1 3) +ᶠ g a b
+  side-le e f g a b l h = sum-le (times e (f 1 3)) (f a b) (times e (g 1 3)) (g a b) (times-le e (f 1 3) (g 1 3) (h 1 3 third)) (h a b l)
 
-  pub lower-upper : AtMost (lnLower k n p) (lnUpper k n p)
-  unfolding lnLower lnUpper
-  lower-upper =
-      at-most (lnLower k n p) (lnUpper k n p)
-      (side-le (p - 1074) (withoutTail k 1 3) (withTail k 1 3) (withoutTail k (n - 2 ^ p) (n + 2 ^ p)) (withTail k (n - 2 ^ p) (n + 2 ^ p)) (without-with 1 3 third k) (without-with (n - 2 ^ p) (n + 2 ^ p) above k))
-      (side-le (1074 - p) (withoutTail k 1 3) (withTail k 1 3) (withoutTail k (2 ^ p - n) (n + 2 ^ p)) (withTail k (2 ^ p - n) (n + 2 ^ p)) (without-with 1 3 third k) (without-with (2 ^ p - n) (n + 2 ^ p) below k))
+  end-le : (over under over' under' : ℕ → ℕ → Frac) → ((a b : ℕ) → a < b → over a b ≤ᶠ over' a b) → ((a b : ℕ) → a < b → under' a b ≤ᶠ under a b) → AtMost (lnEnd over under n p) (lnEnd over' under' n p)
+  unfolding lnEnd
+  end-le over under over' under' h k =
+      at-most (lnEnd over under n p) (lnEnd over' under' n p) (side-le (p - 1074) over over' (n - 2 ^ p) (n + 2 ^ p) above h) (side-le (1074 - p) under' under (2 ^ p - n) (n + 2 ^ p) below k)
 
-  pub lower-enclosed : Enclosed k n p (lnLower k n p)
-  lower-enclosed = record { proper = lower-proper; from = at-most-refl (lnLower k n p); to = lower-upper }
+  module _ (k : ℕ) where
+    pub lower-proper : Proper (lnLower k n p)
+    unfolding lnLower
+    lower-proper = end-proper (withoutTail k) (withTail k) (λ a b l. without-proper a b l k) (λ a b l. with-proper a b l k)
 
-  pub upper-enclosed : Enclosed k n p (lnUpper k n p)
-  upper-enclosed = record { proper = upper-proper; from = lower-upper; to = at-most-refl (lnUpper k n p) }
+    pub upper-proper : Proper (lnUpper k n p)
+    unfolding lnUpper
+    upper-proper = end-proper (withTail k) (withoutTail k) (λ a b l. with-proper a b l k) (λ a b l. without-proper a b l k)
 
-  lower-up : AtMost (lnLower k n p) (lnLower (suc k) n p)
-  unfolding lnLower
-  lower-up =
-      at-most (lnLower k n p) (lnLower (suc k) n p)
-      (side-le (p - 1074) (withoutTail k 1 3) (withoutTail (suc k) 1 3) (withoutTail k (n - 2 ^ p) (n + 2 ^ p)) (withoutTail (suc k) (n - 2 ^ p) (n + 2 ^ p)) (without-rises 1 3 third k) (without-rises (n - 2 ^ p) (n + 2 ^ p) above k))
-      (side-le (1074 - p) (withTail (suc k) 1 3) (withTail k 1 3) (withTail (suc k) (2 ^ p - n) (n + 2 ^ p)) (withTail k (2 ^ p - n) (n + 2 ^ p)) (with-falls 1 3 third k) (with-falls (2 ^ p - n) (n + 2 ^ p) below k))
+    lower-upper : AtMost (lnLower k n p) (lnUpper k n p)
+    unfolding lnLower lnUpper
+    lower-upper = end-le (withoutTail k) (withTail k) (withTail k) (withoutTail k) (λ a b l. without-with a b l k) (λ a b l. without-with a b l k)
 
-  upper-down : AtMost (lnUpper (suc k) n p) (lnUpper k n p)
-  unfolding lnUpper
-  upper-down =
-      at-most (lnUpper (suc k) n p) (lnUpper k n p)
-      (side-le (p - 1074) (withTail (suc k) 1 3) (withTail k 1 3) (withTail (suc k) (n - 2 ^ p) (n + 2 ^ p)) (withTail k (n - 2 ^ p) (n + 2 ^ p)) (with-falls 1 3 third k) (with-falls (n - 2 ^ p) (n + 2 ^ p) above k))
-      (side-le (1074 - p) (withoutTail k 1 3) (withoutTail (suc k) 1 3) (withoutTail k (2 ^ p - n) (n + 2 ^ p)) (withoutTail (suc k) (2 ^ p - n) (n + 2 ^ p)) (without-rises 1 3 third k) (without-rises (2 ^ p - n) (n + 2 ^ p) below k))
+    pub lower-enclosed : Enclosed k n p (lnLower k n p)
+    lower-enclosed = record { proper = lower-proper; from = at-most-refl (lnLower k n p); to = lower-upper }
+
+    pub upper-enclosed : Enclosed k n p (lnUpper k n p)
+    upper-enclosed = record { proper = upper-proper; from = lower-upper; to = at-most-refl (lnUpper k n p) }
+
+    lower-up : AtMost (lnLower k n p) (lnLower (suc k) n p)
+    unfolding lnLower
+    lower-up = end-le (withoutTail k) (withTail k) (withoutTail (suc k)) (withTail (suc k)) (λ a b l. without-rises a b l k) (λ a b l. with-falls a b l k)
+
+    upper-down : AtMost (lnUpper (suc k) n p) (lnUpper k n p)
+    unfolding lnUpper
+    upper-down = end-le (withTail (suc k)) (withoutTail (suc k)) (withTail k) (withoutTail k) (λ a b l. with-falls a b l k) (λ a b l. without-rises a b l k)
 
 -- what lies between the ends by one term more lies between the ends
 pub narrows : (k n p : ℕ) → 0 < n → (v : Number) → Enclosed (suc k) n p v → Enclosed k n p v
 narrows k n p N v e = record {
   proper = e .proper;
-  from = at-most-trans (lnLower k n p) (lnLower (suc k) n p) v (lower-proper (suc k) n p N) (lower-up k n p N) (e .from);
-  to = at-most-trans v (lnUpper (suc k) n p) (lnUpper k n p) (upper-proper (suc k) n p N) (e .to) (upper-down k n p N);
+  from = at-most-trans (lnLower k n p) (lnLower (suc k) n p) v (lower-proper n p N (suc k)) (lower-up n p N k) (e .from);
+  to = at-most-trans v (lnUpper (suc k) n p) (lnUpper k n p) (upper-proper n p N (suc k)) (e .to) (upper-down n p N k);
 }

@@ -19,11 +19,11 @@ use Rattle.float.specs.Sign.{finiteOf}
 use Rattle.float.specs.Nearest.{unitsOf}
 use Rattle.float.specs.Ln.{ln2High, ln2Low, series, reducedLn, lnAt, lnUnits, lnOf}
 use Rattle.ln_near.specs.Fractions.{Frac, _+ᶠ_, times, Proper, Within, valueOf}
-use Rattle.ln_near.specs.LnNear.{withoutTail, withTail, place, lnLower, lnUpper, allowed, LnWithin, LnNear}
+use Rattle.ln_near.specs.LnNear.{withoutTail, withTail, place, lnEnd, lnLower, lnUpper, allowed, LnWithin, LnNear}
 use Rattle.ln_near.proofs.Rounded.{Near}
 use Rattle.ln_near.proofs.Operations.{mul-near, add-near, plus, minus}
 use Rattle.ln_near.proofs.Steps as steps
-use Rattle.ln_near.proofs.Close.{Close, close-sum, close-times, close-within, plus-close, minus-close}
+use Rattle.ln_near.proofs.Close.{Close, close-sum, close-times, close-within, value-close}
 use Rattle.ln_near.proofs.Encloses.{lower-proper, upper-proper, lower-enclosed, upper-enclosed}
 use Rattle.ln_near.proofs.Fractions.{between}
 use Rattle.ln_near.proofs.Reduced.{room, in-units, ratio-above, ratio-below, series-near, W, UW', unlike-right}
@@ -32,7 +32,7 @@ use Rattle.float.proofs.Above.{above-units}
 use Rattle.float.proofs.Nearest.{shape, units-lt, units-exact, of-value, positive-units}
 
 -- ---- what r has to meet, for x of n units and p the place after halving
-pub record Good (n p : ℕ) (r : Float) : Type 0 where
+record Good (n p : ℕ) (r : Float) : Type 0 where
   pub finite : finiteOf r ≡ true
   pub lower : Within (allowed 50 p) (valueOf r) (lnLower 20 n p)
   pub upper : Within (allowed 50 p) (valueOf r) (lnUpper 20 n p)
@@ -56,7 +56,7 @@ meets v p F F' G G' o O r r' q q' x l cF cF' cG cG' h =
     let e' = 1074 - p in
     let L = high + low in
     close-within U (pow-pos 1074) (allowed 50 p) ((e + e' + 1) * (8 * w)) (allowed-close p) (valueOf v) (record { plus = times e F +ᶠ G; minus = times e' F' +ᶠ G' })
-    (plus o O) (minus o O) (e * L + r) (e' * L + r') 0 0 (e * w + q) (e' * w + q') (plus-close v o O x) (minus-close v o O x)
+    (plus o O) (minus o O) (e * L + r) (e' * L + r') 0 0 (e * w + q) (e' * w + q') (value-close v o O x .0) (value-close v o O x .1)
     (close-sum U (times e F) G (e * L) r (e * w) q (close-times U e F L w cF) cG) (close-sum U (times e' F') G' (e' * L) r' (e' * w) q' (close-times U e' F' L w cF') cG')
     (3 * ((e + e') * w) + 2 * w) (halved ((e + e') * w) w (plus o O) (minus o O) (e * L + r) (e' * L + r') h) (budget w e e' q q' l)
 
@@ -87,7 +87,7 @@ scaled E h s e k few l v u =
     one k U h = omega arith
 
 sum-good : (n p : ℕ) (y : Float) (t : Bool) (R : ℕ) → p ≤ 2100 → HasValue y t R (2 ^ 1074) → 20 * R ≤ 9 * 2 ^ 1074 → Sides t n (2 ^ p) R → Good n p (ofInt binary64 (Ieee.minus p 1074) ⊗ ln2High ⊕ (ofInt binary64 (Ieee.minus p 1074) ⊗ ln2Low ⊕ y))
-unfolding lnLower lnUpper
+unfolding lnLower lnUpper lnEnd
 sum-good n p y t R lp v small sides =
     let x = exponent p lp in
     let E = ofInt binary64 (Ieee.minus p 1074) in
@@ -285,9 +285,9 @@ all : (n p : ℕ) (r : Float) → 0 < n → Good n p r → LnWithin 50 n p r
 all n p r N g = record {
   finite = g .finite;
   value-proper = value-proper r;
-  lower-enclosed = lower-enclosed 20 n p N;
-  upper-enclosed = upper-enclosed 20 n p N;
-  near = λ v e. between (allowed 50 p) (valueOf r) (lnLower 20 n p) (lnUpper 20 n p) v (pow-pos 50) (lower-proper 20 n p N) (upper-proper 20 n p N) (g .lower) (g .upper) (e .from) (e .to);
+  lower-enclosed = lower-enclosed n p N 20;
+  upper-enclosed = upper-enclosed n p N 20;
+  near = λ v e. between (allowed 50 p) (valueOf r) (lnLower 20 n p) (lnUpper 20 n p) v (pow-pos 50) (lower-proper n p N 20) (upper-proper n p N 20) (g .lower) (g .upper) (e .from) (e .to);
 }
 
 -- ---- the law: for every finite x above zero, `lnOf x` is within (|E| + 1)·2^−50 of the exact logarithm

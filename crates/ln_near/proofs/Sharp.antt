@@ -8,7 +8,7 @@ use Rattle.float.specs.Above.{above}
 use Rattle.float.specs.Nearest.{unitsOf}
 use Rattle.float.specs.Ln.{oddRecip, horner, series, reducedLn, lnAt, lnUnits, lnOf}
 use Rattle.ln_near.specs.Fractions.{Frac, _+ᶠ_, _≤ᶠ_, valueOf}
-use Rattle.ln_near.specs.LnNear.{term, terms, tail, withoutTail, withTail, place, lnUpper, allowed, LnWithin}
+use Rattle.ln_near.specs.LnNear.{term, terms, tail, withoutTail, withTail, place, lnEnd, lnUpper, allowed, LnWithin}
 
 -- 2^−1074, which is one unit, and its logarithm by `lnOf`
 abbrev pub smallest : Float
@@ -34,7 +34,7 @@ refute f g t h = not-le-of-lt (ltb→lt _ _ t) h
 
 -- the result is above the upper end by more than (|E| + 1)·2^−55
 too-far : valueOf result .plus +ᶠ lnUpper 20 1 0 .minus ≤ᶠ lnUpper 20 1 0 .plus +ᶠ allowed 55 0 +ᶠ valueOf result .minus → ⊥
-unfolding valueOf ofBits lnUpper withTail withoutTail terms term tail
+unfolding valueOf ofBits lnUpper lnEnd withTail withoutTail terms term tail
 too-far h = refute (valueOf result .plus +ᶠ lnUpper 20 1 0 .minus) (lnUpper 20 1 0 .plus +ᶠ allowed 55 0 +ᶠ valueOf result .minus) tt h
 
 pub not-55 : LnWithin 55 (unitsOf smallest) (place (unitsOf smallest)) (lnOf smallest) → ⊥

@@ -39,18 +39,19 @@ place n = let j = size n - 1 in cond (halves (round binary64 false n (2 ^ j))) (
 
 -- ln x = E·ln 2 + ln M, with s = (M−1)/(M+1) for ln M and 1/3 for ln 2. M−1 over M+1 is n − 2^p over n + 2^p; where n is below 2^p, and so s below zero, what
 -- stands after the minus counts. A difference of ℕ is 0 where it would be below zero, so of the two sides for ln M, and of the two for E·ln 2, one is always 0.
--- The lower and the upper end, by k terms.
-unfoldable pub lnLower : (k n p : ℕ) → Number
-lnLower k n p = record {
-  plus = times (p - 1074) (withoutTail k 1 3) +ᶠ withoutTail k (n - 2 ^ p) (n + 2 ^ p);
-  minus = times (1074 - p) (withTail k 1 3) +ᶠ withTail k (2 ^ p - n) (n + 2 ^ p);
+-- `over` are the fractions that stand after the plus, `under` those after the minus.
+unfoldable pub lnEnd : (over under : ℕ → ℕ → Frac) (n p : ℕ) → Number
+lnEnd over under n p = record {
+  plus = times (p - 1074) (over 1 3) +ᶠ over (n - 2 ^ p) (n + 2 ^ p);
+  minus = times (1074 - p) (under 1 3) +ᶠ under (2 ^ p - n) (n + 2 ^ p);
 }
 
+-- the lower and the upper end, by k terms
+unfoldable pub lnLower : (k n p : ℕ) → Number
+lnLower k = lnEnd (withoutTail k) (withTail k)
+
 unfoldable pub lnUpper : (k n p : ℕ) → Number
-lnUpper k n p = record {
-  plus = times (p - 1074) (withTail k 1 3) +ᶠ withTail k (n - 2 ^ p) (n + 2 ^ p);
-  minus = times (1074 - p) (withoutTail k 1 3) +ᶠ withoutTail k (2 ^ p - n) (n + 2 ^ p);
-}
+lnUpper k = lnEnd (withTail k) (withoutTail k)
 
 -- v lies between the ends
 pub record Enclosed (k n p : ℕ) (v : Number) : Type 0 where
