@@ -17,7 +17,7 @@ use lib.Ieee.Positive.{positive, positive-of-value, values-of-le, mul-at}
 use Rattle.float.specs.Ops.{_⊕_, _⊖_, _⊗_, _⊘_, f0, f1, f2}
 use Rattle.float.specs.Sign.{finiteOf}
 use Rattle.float.specs.Nearest.{unitsOf}
-use Rattle.float.specs.Ln.{ln2High, ln2Low, series, reducedLn, lnAt, lnUnits, lnOf}
+use Rattle.float.specs.Ln.{ln2High, ln2Low, halves, series, reducedLn, lnAt, lnUnits, lnOf}
 use Rattle.ln_near.specs.Fractions.{Frac, _+ᶠ_, times, Proper, Within, valueOf}
 use Rattle.ln_near.specs.LnNear.{withoutTail, withTail, place, lnEnd, lnLower, lnUpper, allowed, LnWithin, LnNear}
 use Rattle.ln_near.proofs.Rounded.{Near}
@@ -289,6 +289,19 @@ all n p r N g = record {
   upper-enclosed = upper-enclosed n p N 20;
   near = λ v e. between (allowed 50 p) (valueOf r) (lnLower 20 n p) (lnUpper 20 n p) v (pow-pos 50) (lower-proper n p N 20) (upper-proper n p N 20) (g .lower) (g .upper) (e .from) (e .to);
 }
+
+-- ---- the E of the bound is the one that the result is worked out with
+pub exponent-of-place : (n : ℕ) → let M = round binary64 false n (2 ^ (size n - 1)) in lnUnits n ≡ reducedLn (cond (halves M) (M ⊗ ofBits binary64 0x3fe0_0000_0000_0000) M) (Ieee.minus (place n) 1074)
+unfolding lnUnits lnAt place
+exponent-of-place n = go (halves (round binary64 false n (2 ^ (size n - 1))))
+  where
+    M : Float
+    M = round binary64 false n (2 ^ (size n - 1))
+
+    go : (b : Bool) → cond b (reducedLn (M ⊗ ofBits binary64 0x3fe0_0000_0000_0000) (Ieee.minus (size n - 1 + 1) 1074)) (reducedLn M (Ieee.minus (size n - 1) 1074))
+        ≡ reducedLn (cond b (M ⊗ ofBits binary64 0x3fe0_0000_0000_0000) M) (Ieee.minus (cond b (size n - 1 + 1) (size n - 1)) 1074)
+    go true = refl
+    go false = refl
 
 -- ---- the law: for every finite x above zero, `lnOf x` is within (|E| + 1)·2^−50 of the exact logarithm
 pub ln-near : (x : Float) → T (fits binary64 x) → finiteOf x ≡ true → lt f0 x ≡ true → LnNear x (lnOf x)
