@@ -2,10 +2,11 @@
 //! reads its operands and writes its result through references.
 use crate::floats::Random;
 use crate::timing::{compare, Row};
+use oracle::jet::SIZE;
 use oracle::Jet;
 use std::hint::black_box;
 
-type Coefficients = [f64; 16];
+type Coefficients = [f64; SIZE];
 
 extern "C" {
     fn jet_add(a: &Coefficients, b: &Coefficients, r: &mut Coefficients);
@@ -23,16 +24,16 @@ type Operation = fn(&Coefficients, &Coefficients, &mut Coefficients);
 
 // The rules of oracle/src/jet.rs for the first n coefficients.
 mod first {
-    use super::Coefficients;
+    use super::{Coefficients, SIZE};
     use oracle::jet::below;
 
     fn degree(p: usize) -> f64 {
-        (p % 4 + p / 4 % 2 + p / 8) as f64
+        (p % 4 + p / 4 % 2 + p / 8 % 2 + p / 16) as f64
     }
 
     pub fn mul(n: usize, a: &Coefficients, b: &Coefficients) -> Coefficients {
-        let mut c = [0.0; 16];
-        for m in 0..n.min(16) {
+        let mut c = [0.0; SIZE];
+        for m in 0..n.min(SIZE) {
             let mut sum = a[0] * b[m];
             for &p in &below(m)[1..] {
                 sum += a[p] * b[m - p];
@@ -43,8 +44,8 @@ mod first {
     }
 
     pub fn div(n: usize, a: &Coefficients, b: &Coefficients) -> Coefficients {
-        let mut q = [0.0; 16];
-        for m in 0..n.min(16) {
+        let mut q = [0.0; SIZE];
+        for m in 0..n.min(SIZE) {
             let all = below(m);
             let mut rest = a[m];
             for &p in &all[..all.len() - 1] {
@@ -56,9 +57,9 @@ mod first {
     }
 
     pub fn sqrt(n: usize, a: &Coefficients) -> Coefficients {
-        let mut r = [0.0; 16];
+        let mut r = [0.0; SIZE];
         r[0] = a[0].sqrt();
-        for m in 1..n.min(16) {
+        for m in 1..n.min(SIZE) {
             let all = below(m);
             let mut rest = a[m];
             for &p in &all[1..all.len() - 1] {
@@ -70,9 +71,9 @@ mod first {
     }
 
     pub fn ln(n: usize, a: &Coefficients) -> Coefficients {
-        let mut l = [0.0; 16];
+        let mut l = [0.0; SIZE];
         l[0] = oracle::float::ln(a[0]);
-        for m in 1..n.min(16) {
+        for m in 1..n.min(SIZE) {
             let all = below(m);
             let mut rest = degree(m) * a[m];
             for &p in &all[1..all.len() - 1] {
@@ -185,7 +186,7 @@ const REPEATS: usize = 40;
 
 // Each operation free of the one before.
 fn all(a: &[Coefficients], b: &[Coefficients], f: Operation) {
-    let mut r = [0.0; 16];
+    let mut r = [0.0; SIZE];
     for _ in 0..TURNS {
         for i in 0..N {
             f(&a[i], &b[i], &mut r);
@@ -204,7 +205,7 @@ pub fn rows() -> Vec<Row> {
     let mut rows = Vec::new();
     for (what, against, ours, theirs) in sides() {
         for i in 0..N {
-            let (mut x, mut y) = ([0.0; 16], [0.0; 16]);
+            let (mut x, mut y) = ([0.0; SIZE], [0.0; SIZE]);
             ours(&a[i], &b[i], &mut x);
             theirs(&a[i], &b[i], &mut y);
             assert!(x.map(f64::to_bits) == y.map(f64::to_bits), "{what}: the two sides differ");

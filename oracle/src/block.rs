@@ -1,6 +1,8 @@
 //! The request block of 640 bytes: its parts, the refusals 11 to 17 and the run of the search that the kind names.
 
-use crate::critical_point::{critical_point, spinodal};
+use crate::critical_point::{
+    critical_point, critical_point_binary_p, critical_point_binary_t, spinodal,
+};
 use crate::cubic::{PengRobinson, PengRobinsonRecord};
 use crate::density_iteration::{
     _density_iteration, _density_iteration_stable, _pressure_spinodal, _pressure_spinodal_branch,
@@ -13,18 +15,18 @@ pub const BLOCK: usize = 640;
 /// Kind, N and a block.
 pub const REQUEST: usize = 2 + BLOCK;
 
-/// The kinds are 1 to 7.
-pub const KINDS: u64 = 7;
+/// The kinds are 1 to 9.
+pub const KINDS: u64 = 9;
 
 /// Refusal 2 unless this holds.
 pub fn kind_fits(kind: u64) -> bool {
     (1..=KINDS).contains(&kind)
 }
 
-/// Refusal 3 unless this holds: kind 7 is for two components, every other kind for 1 to 8.
+/// Refusal 3 unless this holds: kinds 7 to 9 are for two components, every other kind for 1 to 8.
 pub fn count_fits(kind: u64, n: u64) -> bool {
     match kind {
-        7 => n == 2,
+        7..=9 => n == 2,
         _ => (1..=8).contains(&n),
     }
 }
@@ -149,7 +151,7 @@ fn finite_and_positive(x: f64) -> bool {
     x.is_finite() && x > 0.0
 }
 
-/// Bits of +0, which kinds 5 and 7 read as none.
+/// Bits of +0, which kinds 5 and 7 read as none, kind 8 in the start and kind 9 in temperature and start.
 fn is_none(x: f64) -> bool {
     x.to_bits() == 0
 }
@@ -204,15 +206,15 @@ pub fn check(kind: u8, n: usize, block: &[u8; BLOCK]) -> Result<Job, u64> {
     }
 
     // 15: the conditions that the kind uses
-    let no_temperature = (kind == 5 || kind == 7) && is_none(parts.temperature);
+    let no_temperature = matches!(kind, 5 | 7 | 9) && is_none(parts.temperature);
     if !no_temperature && !finite_and_positive(parts.temperature) {
         return Err(15);
     }
-    let uses_pressure = kind == 1 || kind == 2;
+    let uses_pressure = matches!(kind, 1 | 2 | 9);
     if uses_pressure && !parts.pressure.is_finite() {
         return Err(15);
     }
-    let uses_start = matches!(kind, 3 | 5 | 7) || (kind == 1 && parts.choice == 2);
+    let uses_start = matches!(kind, 3 | 5 | 7 | 8 | 9) || (kind == 1 && parts.choice == 2);
     if uses_start && !parts.start.is_finite() {
         return Err(15);
     }
@@ -251,6 +253,7 @@ impl Job {
     /// Runs the search to its end.
     pub fn run(&self, evals: &mut Evaluations) -> FeosResult<[f64; 3]> {
         let (eos, x, t) = (&self.eos, &self.molefracs[..], self.temperature);
+        let given = |x: f64| if is_none(x) { None } else { Some(x) };
         match self.kind {
             1 => {
                 let initial_density = match self.choice {
@@ -275,14 +278,18 @@ impl Job {
                 Ok([p, rho, 0.0])
             }
             5 | 7 => {
-                let given = |x: f64| if is_none(x) { None } else { Some(x) };
                 let [t, rho] = critical_point(eos, x, given(t), given(self.start), evals)?;
                 Ok([t, rho, 0.0])
             }
-            _ => {
+            6 => {
                 let [vapor, liquid] = spinodal(eos, t, x, evals)?;
                 Ok([vapor, liquid, 0.0])
             }
+            8 => {
+                let [rho0, rho1] = critical_point_binary_t(eos, t, x, given(self.start), evals)?;
+                Ok([rho0, rho1, 0.0])
+            }
+            _ => critical_point_binary_p(eos, self.pressure, given(t), x, given(self.start), evals),
         }
     }
 }

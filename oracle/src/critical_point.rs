@@ -1,14 +1,16 @@
-//! Critical points of one component with fraction 1 or of a blend of two, stability spinodals of one component. After feos
-//! `state/critical_point.rs`. Mark e0 is on the mole numbers or s, e1 on temperature, e2 on density.
+//! Critical points of one component with fraction 1 or of a blend of two, also at a set temperature or pressure, and stability
+//! spinodals of one component. After feos `state/critical_point.rs`. Mark e0 is on the mole numbers, s or the volume; e1, e2
+//! and e3 are on the unknowns in their order.
 
 use crate::cubic::PengRobinson;
 use crate::evaluations::{finite, Evaluations, FeosError, FeosResult};
 use crate::float;
-use crate::jet::{self, Jet};
+use crate::jet::{self, Jet, JetOf};
 use crate::residual::plain;
 use crate::state::DensityInitialization::{self, InitialDensity, Liquid, Vapor};
 
 const MAX_ITER_CRIT_POINT: usize = 50;
+const MAX_ITER_CRIT_POINT_BINARY: usize = 200;
 const TOL_CRIT_POINT: f64 = 1e-8;
 
 /// Calculate the critical point of a system for given moles.
@@ -73,6 +75,114 @@ fn critical_point_hkm(
         // check convergence
         if float::norm(res) < tol {
             return Ok([t, rho]);
+        }
+    }
+    Err(FeosError::NotConverged)
+}
+
+/// Calculate the critical point of a binary system for given temperature: the partial densities.
+pub fn critical_point_binary_t(
+    eos: &PengRobinson,
+    temperature: f64,
+    initial_molefracs: &[f64],
+    initial_density: Option<f64>,
+    evals: &mut Evaluations,
+) -> FeosResult<[f64; 2]> {
+    let (max_iter, tol) = (MAX_ITER_CRIT_POINT_BINARY, TOL_CRIT_POINT);
+
+    let t = temperature;
+    let max_density = eos.compute_max_density(initial_molefracs);
+    let rho_init = initial_density.unwrap_or(0.3 * max_density);
+    let mut rho = [
+        initial_molefracs[0] * rho_init,
+        initial_molefracs[1] * rho_init,
+    ];
+
+    for _ in 1..=max_iter {
+        // calculate residuals and derivatives w.r.t. partial densities
+        let (res, jac) = evals.criticality_t(eos, t, rho)?;
+
+        // calculate Newton step
+        let mut delta = float::solve(jac, res).ok_or(FeosError::IterationFailed)?;
+
+        // reduce step if necessary
+        for i in 0..2 {
+            if delta[i].abs() > 0.03 * max_density {
+                let factor = 0.03 * max_density / delta[i].abs();
+                delta = delta.map(|d| d * factor);
+            }
+        }
+
+        // apply step
+        rho[0] -= delta[0];
+        rho[1] -= delta[1];
+        rho[0] = float::max(rho[0], 1e-4 * max_density);
+        rho[1] = float::max(rho[1], 1e-4 * max_density);
+        finite(rho[0])?;
+        finite(rho[1])?;
+
+        // check convergence
+        if float::norm(res) < tol {
+            return Ok(rho);
+        }
+    }
+    Err(FeosError::NotConverged)
+}
+
+/// Calculate the critical point of a binary system for given pressure: temperature and partial densities.
+pub fn critical_point_binary_p(
+    eos: &PengRobinson,
+    pressure: f64,
+    initial_temperature: Option<f64>,
+    initial_molefracs: &[f64],
+    initial_density: Option<f64>,
+    evals: &mut Evaluations,
+) -> FeosResult<[f64; 3]> {
+    let (max_iter, tol) = (MAX_ITER_CRIT_POINT_BINARY, TOL_CRIT_POINT);
+
+    let p = pressure;
+    let mut t = initial_temperature.unwrap_or(300.0);
+    let max_density = eos.compute_max_density(initial_molefracs);
+    let rho_init = initial_density.unwrap_or(0.3 * max_density);
+    let mut rho = [
+        initial_molefracs[0] * rho_init,
+        initial_molefracs[1] * rho_init,
+    ];
+
+    for _ in 1..=max_iter {
+        // calculate residuals and derivatives w.r.t. temperature and partial densities
+        let (res, jac) = evals.criticality_p(eos, p, t, rho)?;
+
+        // calculate Newton step
+        let mut delta = float::solve_three(jac, res).ok_or(FeosError::IterationFailed)?;
+
+        // reduce step if necessary
+        if delta[0].abs() > 0.25 * t {
+            let factor = 0.25 * t / delta[0].abs();
+            delta = delta.map(|d| d * factor);
+        }
+        if delta[1].abs() > 0.03 * max_density {
+            let factor = 0.03 * max_density / delta[1].abs();
+            delta = delta.map(|d| d * factor);
+        }
+        if delta[2].abs() > 0.03 * max_density {
+            let factor = 0.03 * max_density / delta[2].abs();
+            delta = delta.map(|d| d * factor);
+        }
+
+        // apply step
+        t -= delta[0];
+        rho[0] -= delta[1];
+        rho[1] -= delta[2];
+        rho[0] = float::max(rho[0], 1e-4 * max_density);
+        rho[1] = float::max(rho[1], 1e-4 * max_density);
+        finite(t)?;
+        finite(rho[0])?;
+        finite(rho[1])?;
+
+        // check convergence
+        if float::norm(res) < tol {
+            return Ok([t, rho[0], rho[1]]);
         }
     }
     Err(FeosError::NotConverged)
@@ -143,13 +253,64 @@ pub fn criticality(
     density: f64,
     molefracs: &[f64],
 ) -> ([f64; 2], [[f64; 2]; 2]) {
+    criticality_in::<16>(eos, temperature, density, molefracs)
+}
+
+/// The same in jets of another length.
+pub fn criticality_in<const S: usize>(
+    eos: &PengRobinson,
+    temperature: f64,
+    density: f64,
+    molefracs: &[f64],
+) -> ([f64; 2], [[f64; 2]; 2]) {
     let [l, c2] = criticality_conditions(
         eos,
-        Jet::e1(temperature),
-        Jet::e2(density),
+        JetOf::<S>::e1(temperature),
+        JetOf::e2(density),
         &plain(molefracs),
     );
     ([l.c[0], c2.c[0]], [[l.c[4], l.c[8]], [c2.c[4], c2.c[8]]])
+}
+
+/// Both criticality conditions of two components, then their derivatives by the partial densities, by rows: the Rust's
+/// `jacobian` of `critical_point_binary_t`.
+pub fn criticality_t(eos: &PengRobinson, temperature: f64, rho: [f64; 2]) -> [f64; 6] {
+    criticality_t_in::<16>(eos, temperature, rho)
+}
+
+/// The same in jets of another length.
+pub fn criticality_t_in<const S: usize>(
+    eos: &PengRobinson,
+    temperature: f64,
+    rho: [f64; 2],
+) -> [f64; 6] {
+    let rho = [JetOf::<S>::e1(rho[0]), JetOf::e2(rho[1])];
+    let density = jet::sum(&rho);
+    let molefracs = rho.map(|rho| rho / density);
+    let t = JetOf::from(temperature);
+    let [l, c2] = criticality_conditions(eos, t, density, &molefracs);
+    [l.c[0], c2.c[0], l.c[4], l.c[8], c2.c[4], c2.c[8]]
+}
+
+/// Both criticality conditions of two components and what the pressure is off by, then their derivatives by temperature and
+/// the partial densities, by rows: the Rust's `jacobian` of `critical_point_binary_p`.
+pub fn criticality_p(
+    eos: &PengRobinson,
+    pressure: f64,
+    temperature: f64,
+    rho: [f64; 2],
+) -> [f64; 12] {
+    let t = Jet::e1(temperature);
+    let partial_density = [Jet::e2(rho[0]), Jet::e3(rho[1])];
+    let res = criticality_conditions_p(eos, Jet::from(pressure), t, partial_density);
+    let mut yields = [0.0; 12];
+    for (i, r) in res.iter().enumerate() {
+        yields[i] = r.c[0];
+        for (j, mark) in [4, 8, 16].into_iter().enumerate() {
+            yields[3 + 3 * i + j] = r.c[mark];
+        }
+    }
+    yields
 }
 
 /// The stability condition with its derivative by density, the Rust's `first_derivative`.
@@ -159,40 +320,50 @@ pub fn stability(
     density: f64,
     molefracs: &[f64],
 ) -> (f64, f64) {
+    stability_in::<16>(eos, temperature, density, molefracs)
+}
+
+/// The same in jets of another length.
+pub fn stability_in<const S: usize>(
+    eos: &PengRobinson,
+    temperature: f64,
+    density: f64,
+    molefracs: &[f64],
+) -> (f64, f64) {
     let f = stability_condition(
         eos,
-        Jet::from(temperature),
-        Jet::e2(density),
+        JetOf::<S>::from(temperature),
+        JetOf::e2(density),
         &plain(molefracs),
     );
     (f.c[0], f.c[8])
 }
 
-fn criticality_conditions(
+fn criticality_conditions<const S: usize>(
     eos: &PengRobinson,
-    temperature: Jet,
-    density: Jet,
-    molefracs: &[Jet],
-) -> [Jet; 2] {
+    temperature: JetOf<S>,
+    density: JetOf<S>,
+    molefracs: &[JetOf<S>],
+) -> [JetOf<S>; 2] {
     // calculate M
     let molar_volume = density.recip();
-    let sqrt_z: Vec<Jet> = molefracs.iter().map(|z| z.sqrt()).collect();
+    let sqrt_z: Vec<JetOf<S>> = molefracs.iter().map(|z| z.sqrt()).collect();
     let m = matrix(eos, temperature, molar_volume, molefracs, &sqrt_z);
 
     // calculate smallest eigenvalue and corresponding eigenvector
     let (l, u) = smallest_ev(&m);
 
-    let s = Jet::e0(0.0);
-    let n: Vec<Jet> = (0..molefracs.len())
+    let s = JetOf::e0(0.0);
+    let n: Vec<JetOf<S>> = (0..molefracs.len())
         .map(|i| molefracs[i] + (sqrt_z[i] * u[i]) * s)
         .collect();
     let t = temperature;
     let v = molar_volume;
-    let ln_n: Vec<Jet> = n
+    let ln_n: Vec<JetOf<S>> = n
         .iter()
         .map(|&n| {
             if n.is_zero() {
-                Jet::zero()
+                JetOf::zero()
             } else {
                 (n / v).ln() - 1.0
             }
@@ -205,15 +376,34 @@ fn criticality_conditions(
     [l, c2]
 }
 
-fn stability_condition(
+fn criticality_conditions_p<const S: usize>(
     eos: &PengRobinson,
-    temperature: Jet,
-    density: Jet,
-    molefracs: &[Jet],
-) -> Jet {
+    pressure: JetOf<S>,
+    temperature: JetOf<S>,
+    partial_density: [JetOf<S>; 2],
+) -> [JetOf<S>; 3] {
+    let density = partial_density[0] + partial_density[1];
+    let molefracs = partial_density.map(|rho| rho / density);
+
+    let [c1, c2] = criticality_conditions(eos, temperature, density, &molefracs);
+
+    // calculate pressure
+    let v = density.recip().plus_e0();
+    let a = eos.residual_helmholtz_energy(temperature, v, &molefracs);
+    let da = a.derivative(1);
+    let p_calc = -da + density * temperature;
+    [c1, c2, -p_calc + pressure]
+}
+
+fn stability_condition<const S: usize>(
+    eos: &PengRobinson,
+    temperature: JetOf<S>,
+    density: JetOf<S>,
+    molefracs: &[JetOf<S>],
+) -> JetOf<S> {
     // calculate M
     let molar_volume = density.recip();
-    let sqrt_z: Vec<Jet> = molefracs.iter().map(|z| z.sqrt()).collect();
+    let sqrt_z: Vec<JetOf<S>> = molefracs.iter().map(|z| z.sqrt()).collect();
     let m = matrix(eos, temperature, molar_volume, molefracs, &sqrt_z);
 
     // calculate smallest eigenvalue and corresponding eigenvector
@@ -223,17 +413,17 @@ fn stability_condition(
 }
 
 /// A matrix of 1 by 1 or 2 by 2 jets, by rows.
-pub type Matrix = Vec<Vec<Jet>>;
+pub type Matrix<const S: usize> = Vec<Vec<JetOf<S>>>;
 
 /// M: `dmu_dn` times the roots of both fractions, entry by entry, plus the identity, whose zeros are added too.
-pub fn matrix(
+pub fn matrix<const S: usize>(
     eos: &PengRobinson,
-    temperature: Jet,
-    molar_volume: Jet,
-    molefracs: &[Jet],
-    sqrt_z: &[Jet],
-) -> Matrix {
-    let identity = |i, j| if i == j { Jet::one() } else { Jet::zero() };
+    temperature: JetOf<S>,
+    molar_volume: JetOf<S>,
+    molefracs: &[JetOf<S>],
+    sqrt_z: &[JetOf<S>],
+) -> Matrix<S> {
+    let identity = |i, j| if i == j { JetOf::one() } else { JetOf::zero() };
     let mut m = dmu_dn(eos, temperature, molar_volume, molefracs);
     for (i, row) in m.iter_mut().enumerate() {
         for (j, entry) in row.iter_mut().enumerate() {
@@ -245,7 +435,12 @@ pub fn matrix(
 }
 
 /// The second derivatives by the mole numbers. The mixed one is half of that in direction (1,1) less the other two.
-fn dmu_dn(eos: &PengRobinson, temperature: Jet, molar_volume: Jet, molefracs: &[Jet]) -> Matrix {
+fn dmu_dn<const S: usize>(
+    eos: &PengRobinson,
+    temperature: JetOf<S>,
+    molar_volume: JetOf<S>,
+    molefracs: &[JetOf<S>],
+) -> Matrix<S> {
     // e0 is on the mole numbers that the direction names
     let along = |direction: &[usize]| {
         let mut n = molefracs.to_vec();
@@ -267,19 +462,19 @@ fn dmu_dn(eos: &PengRobinson, temperature: Jet, molar_volume: Jet, molefracs: &[
 }
 
 /// The smallest eigenvalue and its vector: of one component the entry itself and 1, of two by document 02.
-fn smallest_ev(m: &Matrix) -> (Jet, Vec<Jet>) {
+fn smallest_ev<const S: usize>(m: &Matrix<S>) -> (JetOf<S>, Vec<JetOf<S>>) {
     if m.len() == 1 {
-        return (m[0][0], vec![Jet::one()]);
+        return (m[0][0], vec![JetOf::one()]);
     }
     let (m11, m12, m22) = (m[0][0], m[0][1], m[1][1]);
     let d = m11 - m22;
-    let root = (d * d + (Jet::from(4.0) * m12) * m12).sqrt();
+    let root = (d * d + (JetOf::from(4.0) * m12) * m12).sqrt();
     let l = ((m11 + m22) - root) * 0.5;
     let u = if m12.is_zero() {
         if m11.re() <= m22.re() {
-            vec![Jet::one(), Jet::zero()]
+            vec![JetOf::one(), JetOf::zero()]
         } else {
-            vec![Jet::zero(), Jet::one()]
+            vec![JetOf::zero(), JetOf::one()]
         }
     } else {
         let u = [m12, l - m11];

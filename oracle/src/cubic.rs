@@ -1,6 +1,6 @@
 //! The Peng-Robinson equation of state: parameters, maximum density and Helmholtz energy. After feos `cubic.rs`.
 
-use crate::jet::{self, Jet};
+use crate::jet::{self, JetOf};
 use crate::state::StateHD;
 use std::f64::consts::SQRT_2;
 
@@ -85,25 +85,29 @@ impl PengRobinson {
         0.9 / dot
     }
 
-    pub fn for_each_contribution(&self, state: &StateHD, mut f: impl FnMut(&'static str, Jet)) {
+    pub fn for_each_contribution<const S: usize>(
+        &self,
+        state: &StateHD<S>,
+        mut f: impl FnMut(&'static str, JetOf<S>),
+    ) {
         let density = jet::sum(&state.partial_density);
         let x = &state.molefracs;
-        let ak: Vec<Jet> = (0..self.components())
+        let ak: Vec<JetOf<S>> = (0..self.components())
             .map(|i| {
-                let x = Jet::one() - (state.temperature / self.tc[i]).sqrt();
-                let x = x * Jet::from(self.kappa[i]);
-                (x + 1.0).square() * Jet::from(self.a[i])
+                let x = JetOf::one() - (state.temperature / self.tc[i]).sqrt();
+                let x = x * JetOf::from(self.kappa[i]);
+                (x + 1.0).square() * JetOf::from(self.a[i])
             })
             .collect();
 
         // Mixing rules
-        let mut ak_mix = Jet::zero();
+        let mut ak_mix = JetOf::zero();
         for i in 0..ak.len() {
             for j in 0..ak.len() {
                 ak_mix += (ak[i] * ak[j]).sqrt() * (x[i] * x[j] * (1.0 - self.k_ij[i][j]));
             }
         }
-        let b_i: Vec<Jet> = self.b.iter().map(|&b| Jet::from(b)).collect();
+        let b_i: Vec<JetOf<S>> = self.b.iter().map(|&b| JetOf::from(b)).collect();
         let b = jet::dot(x, &b_i);
 
         // Helmholtz energy

@@ -3,7 +3,7 @@
 use crate::cubic::PengRobinson;
 use crate::evaluations::{finite, Evaluations, FeosError, FeosResult};
 use crate::float::{self, is_sign_negative, is_sign_positive};
-use crate::jet::Jet;
+use crate::jet::JetOf;
 use crate::residual::plain;
 use crate::state::DensityInitialization::{self, InitialDensity, Liquid, Vapor};
 
@@ -45,10 +45,20 @@ pub fn _chemical_potential(
     density: f64,
     molefracs: &[f64],
 ) -> f64 {
+    _chemical_potential_in::<16>(eos, temperature, density, molefracs)
+}
+
+/// The same in jets of another length.
+pub fn _chemical_potential_in<const S: usize>(
+    eos: &PengRobinson,
+    temperature: f64,
+    density: f64,
+    molefracs: &[f64],
+) -> f64 {
     let molar_volume = 1.0 / density;
-    let t = Jet::from(temperature);
+    let t = JetOf::<S>::from(temperature);
     let x = plain(molefracs);
-    let a = eos.residual_helmholtz_energy(t, Jet::e0(molar_volume), &x);
+    let a = eos.residual_helmholtz_energy(t, JetOf::e0(molar_volume), &x);
     let (a_res, da_res) = (a.re(), a.derivative(1).re());
     a_res - da_res * molar_volume + temperature * float::ln(density)
 }

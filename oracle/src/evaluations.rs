@@ -1,7 +1,7 @@
 //! Evaluations as document 01 counts them, and its rule 27: what an evaluation yields, and a temperature or density
 //! after a step and its floor, has to be finite. The searches make every evaluation through this file.
 
-use crate::critical_point::{criticality, stability};
+use crate::critical_point::{criticality, criticality_p, criticality_t, stability};
 use crate::cubic::PengRobinson;
 use crate::density_iteration::_chemical_potential;
 
@@ -27,6 +27,7 @@ pub type FeosResult<T> = Result<T, FeosError>;
 pub struct Evaluation {
     pub call: &'static str,
     pub temperature: f64,
+    /// of two partial densities the sum
     pub density: f64,
     pub yields: Vec<f64>,
 }
@@ -122,6 +123,35 @@ impl Evaluations {
         let yields = [res[0], res[1], l_t, l_rho, c2_t, c2_rho];
         self.made("criticality_conditions", temperature, density, &yields)?;
         Ok((res, jac))
+    }
+
+    /// Both criticality conditions and their Jacobian by the partial densities.
+    pub fn criticality_t(
+        &mut self,
+        eos: &PengRobinson,
+        temperature: f64,
+        rho: [f64; 2],
+    ) -> FeosResult<([f64; 2], [[f64; 2]; 2])> {
+        let yields = criticality_t(eos, temperature, rho);
+        let density = rho[0] + rho[1];
+        self.made("criticality_conditions", temperature, density, &yields)?;
+        let [l, c2, l_0, l_1, c2_0, c2_1] = yields;
+        Ok(([l, c2], [[l_0, l_1], [c2_0, c2_1]]))
+    }
+
+    /// Both criticality conditions and the pressure's, and their Jacobian by temperature and the partial densities.
+    pub fn criticality_p(
+        &mut self,
+        eos: &PengRobinson,
+        pressure: f64,
+        temperature: f64,
+        rho: [f64; 2],
+    ) -> FeosResult<([f64; 3], [[f64; 3]; 3])> {
+        let yields = criticality_p(eos, pressure, temperature, rho);
+        let density = rho[0] + rho[1];
+        self.made("criticality_conditions_p", temperature, density, &yields)?;
+        let three = |at: usize| [yields[at], yields[at + 1], yields[at + 2]];
+        Ok((three(0), [three(3), three(6), three(9)]))
     }
 
     /// The stability condition and its derivative by density.

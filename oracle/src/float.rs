@@ -1,5 +1,5 @@
-//! Document 01's stand-ins on plain floats: logarithm, with document 02's split, `max`, `min`, sign tests, norm and the
-//! 2 by 2 solve. All NaNs count as one value, so a NaN's sign is never looked at.
+//! Document 01's stand-ins on plain floats: logarithm, with document 02's split, `max`, `min`, sign tests, norm, the 2 by 2
+//! solve and document 02's 3 by 3 one. All NaNs count as one value, so a NaN's sign is never looked at.
 
 /// The one NaN as it is printed.
 pub const NAN_BITS: u64 = 0x7FF8_0000_0000_0000;
@@ -92,9 +92,13 @@ fn mantissa_exponent(x: f64) -> (f64, i32) {
     )
 }
 
-/// Root of the sum of squares.
-pub fn norm(x: [f64; 2]) -> f64 {
-    (x[0] * x[0] + x[1] * x[1]).sqrt()
+/// Root of the sum of squares, which ascends from the first.
+pub fn norm<const N: usize>(x: [f64; N]) -> f64 {
+    let mut sum = x[0] * x[0];
+    for x in &x[1..] {
+        sum += x * x;
+    }
+    sum.sqrt()
 }
 
 /// Solves m * x = r. The lower row comes up if its first entry is larger in size; `None` for a zero pivot.
@@ -115,4 +119,38 @@ pub fn solve(m: [[f64; 2]; 2], r: [f64; 2]) -> Option<[f64; 2]> {
     let x1 = (r[1] - f * r[0]) / pivot;
     let x0 = (r[0] - m[0][1] * x1) / m[0][0];
     Some([x0, x1])
+}
+
+/// Solves m * x = r by elimination. In each column the largest entry in size at or below the diagonal is the pivot, the upper
+/// one of equals, and its row changes places with the diagonal's; `None` for a zero pivot. The last unknown comes first.
+pub fn solve_three(mut m: [[f64; 3]; 3], mut r: [f64; 3]) -> Option<[f64; 3]> {
+    for column in 0..3 {
+        let mut pivot = column;
+        for row in column + 1..3 {
+            if m[row][column].abs() > m[pivot][column].abs() {
+                pivot = row;
+            }
+        }
+        m.swap(column, pivot);
+        r.swap(column, pivot);
+        if m[column][column] == 0.0 {
+            return None;
+        }
+        for row in column + 1..3 {
+            let f = m[row][column] / m[column][column];
+            for k in column + 1..3 {
+                m[row][k] -= f * m[column][k];
+            }
+            r[row] -= f * r[column];
+        }
+    }
+    let mut x = [0.0; 3];
+    for i in (0..3).rev() {
+        let mut rest = r[i];
+        for k in i + 1..3 {
+            rest -= m[i][k] * x[k];
+        }
+        x[i] = rest / m[i][i];
+    }
+    Some(x)
 }

@@ -5,7 +5,7 @@ use crate::critical_point::matrix;
 use crate::cubic::PengRobinson;
 use crate::density_iteration::{_pressure_spinodal, _pressure_spinodal_branch};
 use crate::evaluations::Evaluations;
-use crate::jet::Jet;
+use crate::jet::Jet16;
 use crate::random::{blend, blend_of_two, make_alike, Blend, Rng};
 use crate::residual::plain;
 use crate::state::DensityInitialization::{Liquid, Vapor};
@@ -283,9 +283,9 @@ pub(crate) fn uncoupled_state(
 ) -> Option<(f64, f64)> {
     let max_density = eos.compute_max_density(x);
     let x = plain(x);
-    let sqrt_z: Vec<Jet> = x.iter().map(|x| x.sqrt()).collect();
+    let sqrt_z: Vec<Jet16> = x.iter().map(|x| x.sqrt()).collect();
     let mixed = |t: f64, rho: f64| {
-        matrix(eos, Jet::from(t), Jet::from(rho).recip(), &x, &sqrt_z)[0][1].re()
+        matrix(eos, Jet16::from(t), Jet16::from(rho).recip(), &x, &sqrt_z)[0][1].re()
     };
     // attraction prevails at the lower density, repulsion near the packing limit 1/b
     let [mut low, mut high] = [1e-3, 1.1].map(|part| part * max_density);

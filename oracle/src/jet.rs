@@ -1,25 +1,34 @@
-//! Jets: polynomials in the marks e0 (degree up to 3), e1 and e2 (degree up to 1), higher terms dropped.
-//! The coefficient of e0^i e1^j e2^k stands at position i + 4j + 8k. The rules are document 01's stand-ins for `DualNum`.
+//! Jets: polynomials in the marks e0 (degree up to 3), e1, e2 and e3 (degree up to 1), higher terms dropped. The coefficient
+//! of e0^i e1^j e2^k e3^l stands at position i + 4j + 8k + 16l. The rules are document 01's stand-ins for `DualNum`. Without
+//! e3 sixteen positions are enough: no coefficient hangs on one at a later position.
 
 use crate::float;
 use std::ops::{Add, AddAssign, Div, Mul, Neg, Sub};
 
-pub const SIZE: usize = 16;
+/// Positions of a jet with every mark.
+pub const SIZE: usize = 32;
 
+/// The first positions of a jet: all 32, or the 16 without e3.
 #[derive(Clone, Copy, Debug, PartialEq)]
-pub struct Jet {
-    pub c: [f64; SIZE],
+pub struct JetOf<const S: usize> {
+    pub c: [f64; S],
 }
 
-/// The degrees (i, j, k) in e0, e1 and e2 of a position.
-const fn parts(p: usize) -> [usize; 3] {
-    [p % 4, p / 4 % 2, p / 8]
+/// The jet of the documents.
+pub type Jet = JetOf<SIZE>;
+
+/// A jet without e3, in which kinds 1 to 8 are worked out.
+pub type Jet16 = JetOf<16>;
+
+/// The degrees in e0, e1, e2 and e3 of a position.
+const fn parts(p: usize) -> [usize; 4] {
+    [p % 4, p / 4 % 2, p / 8 % 2, p / 16]
 }
 
 /// p is not above m in any mark.
 const fn is_below(p: usize, m: usize) -> bool {
     let (a, b) = (parts(p), parts(m));
-    a[0] <= b[0] && a[1] <= b[1] && a[2] <= b[2]
+    a[0] <= b[0] && a[1] <= b[1] && a[2] <= b[2] && a[3] <= b[3]
 }
 
 /// The positions below one position, ascending.
@@ -77,41 +86,48 @@ fn between(m: usize) -> &'static [usize] {
 
 /// The degree sum of a position.
 fn degree(p: usize) -> f64 {
-    let [i, j, k] = parts(p);
-    (i + j + k) as f64
+    let [i, j, k, l] = parts(p);
+    (i + j + k + l) as f64
 }
 
-impl From<f64> for Jet {
+impl<const S: usize> From<f64> for JetOf<S> {
     /// A plain number beside a jet is a jet with zeros after it.
     fn from(x: f64) -> Self {
-        let mut c = [0.0; SIZE];
+        let mut c = [0.0; S];
         c[0] = x;
-        Jet { c }
+        JetOf { c }
     }
 }
 
 impl Jet {
+    /// x + e3.
+    pub fn e3(x: f64) -> Self {
+        Jet::from(x).with_mark(16)
+    }
+}
+
+impl<const S: usize> JetOf<S> {
     pub fn zero() -> Self {
-        Jet::from(0.0)
+        Self::from(0.0)
     }
 
     pub fn one() -> Self {
-        Jet::from(1.0)
+        Self::from(1.0)
     }
 
     /// x + e0.
     pub fn e0(x: f64) -> Self {
-        Jet::from(x).with_mark(1)
+        Self::from(x).with_mark(1)
     }
 
     /// x + e1.
     pub fn e1(x: f64) -> Self {
-        Jet::from(x).with_mark(4)
+        Self::from(x).with_mark(4)
     }
 
     /// x + e2.
     pub fn e2(x: f64) -> Self {
-        Jet::from(x).with_mark(8)
+        Self::from(x).with_mark(8)
     }
 
     /// A jet free of e0, plus e0.
@@ -134,7 +150,7 @@ impl Jet {
     }
 
     pub fn recip(self) -> Self {
-        Jet::one() / self
+        Self::one() / self
     }
 
     /// `powi(2)` is a product.
@@ -144,96 +160,96 @@ impl Jet {
 
     pub fn sqrt(self) -> Self {
         let a = &self.c;
-        let mut r = [0.0; SIZE];
+        let mut r = [0.0; S];
         r[0] = a[0].sqrt();
-        for m in 1..SIZE {
+        for m in 1..S {
             let mut rest = a[m];
             for &p in between(m) {
                 rest -= r[p] * r[m - p];
             }
             r[m] = rest / (2.0 * r[0]);
         }
-        Jet { c: r }
+        JetOf { c: r }
     }
 
     pub fn ln(self) -> Self {
         let a = &self.c;
-        let mut l = [0.0; SIZE];
+        let mut l = [0.0; S];
         l[0] = float::ln(a[0]);
-        for m in 1..SIZE {
+        for m in 1..S {
             let mut rest = degree(m) * a[m];
             for &p in between(m) {
                 rest -= (degree(p) * l[p]) * a[m - p];
             }
             l[m] = rest / (degree(m) * a[0]);
         }
-        Jet { c: l }
+        JetOf { c: l }
     }
 
     /// The k-th derivative by e0: k factorial times the coefficients of e0^k, a jet free of e0.
     pub fn derivative(self, k: usize) -> Self {
         let factorial = (1..=k).product::<usize>() as f64;
-        let mut c = [0.0; SIZE];
-        for m in (0..SIZE).step_by(4) {
+        let mut c = [0.0; S];
+        for m in (0..S).step_by(4) {
             c[m] = factorial * self.c[m + k];
         }
-        Jet { c }
+        JetOf { c }
     }
 }
 
-impl Add for Jet {
-    type Output = Jet;
-    fn add(self, rhs: Jet) -> Jet {
-        let mut c = [0.0; SIZE];
-        for m in 0..SIZE {
+impl<const S: usize> Add for JetOf<S> {
+    type Output = Self;
+    fn add(self, rhs: Self) -> Self {
+        let mut c = [0.0; S];
+        for m in 0..S {
             c[m] = self.c[m] + rhs.c[m];
         }
-        Jet { c }
+        JetOf { c }
     }
 }
 
-impl Sub for Jet {
-    type Output = Jet;
-    fn sub(self, rhs: Jet) -> Jet {
-        let mut c = [0.0; SIZE];
-        for m in 0..SIZE {
+impl<const S: usize> Sub for JetOf<S> {
+    type Output = Self;
+    fn sub(self, rhs: Self) -> Self {
+        let mut c = [0.0; S];
+        for m in 0..S {
             c[m] = self.c[m] - rhs.c[m];
         }
-        Jet { c }
+        JetOf { c }
     }
 }
 
-impl Neg for Jet {
-    type Output = Jet;
-    fn neg(self) -> Jet {
-        Jet {
+impl<const S: usize> Neg for JetOf<S> {
+    type Output = Self;
+    fn neg(self) -> Self {
+        JetOf {
             c: self.c.map(|x| -x),
         }
     }
 }
 
-impl Mul for Jet {
-    type Output = Jet;
-    fn mul(self, rhs: Jet) -> Jet {
+impl<const S: usize> Mul for JetOf<S> {
+    type Output = Self;
+    fn mul(self, rhs: Self) -> Self {
         let (a, b) = (&self.c, &rhs.c);
-        let mut c = [0.0; SIZE];
-        for m in 0..SIZE {
+        let mut c = [0.0; S];
+        for m in 0..S {
             let mut sum = a[0] * b[m];
             for &p in &below(m)[1..] {
                 sum += a[p] * b[m - p];
             }
             c[m] = sum;
         }
-        Jet { c }
+        JetOf { c }
     }
 }
 
-impl Div for Jet {
-    type Output = Jet;
-    fn div(self, rhs: Jet) -> Jet {
+impl<const S: usize> Div for JetOf<S> {
+    type Output = Self;
+    fn div(self, rhs: Self) -> Self {
         let (a, b) = (&self.c, &rhs.c);
-        let mut q = [0.0; SIZE];
-        for m in 0..SIZE {
+        let mut q = [0.0; S];
+        for m in 0..S {
             let all = below(m);
             let mut rest = a[m];
             for &p in &all[..all.len() - 1] {
@@ -241,46 +257,46 @@ impl Div for Jet {
             }
             q[m] = rest / b[0];
         }
-        Jet { c: q }
+        JetOf { c: q }
     }
 }
 
-impl AddAssign for Jet {
-    fn add_assign(&mut self, rhs: Jet) {
+impl<const S: usize> AddAssign for JetOf<S> {
+    fn add_assign(&mut self, rhs: Self) {
         *self = *self + rhs;
     }
 }
 
-impl Add<f64> for Jet {
-    type Output = Jet;
-    fn add(self, rhs: f64) -> Jet {
-        self + Jet::from(rhs)
+impl<const S: usize> Add<f64> for JetOf<S> {
+    type Output = Self;
+    fn add(self, rhs: f64) -> Self {
+        self + Self::from(rhs)
     }
 }
 
-impl Sub<f64> for Jet {
-    type Output = Jet;
-    fn sub(self, rhs: f64) -> Jet {
-        self - Jet::from(rhs)
+impl<const S: usize> Sub<f64> for JetOf<S> {
+    type Output = Self;
+    fn sub(self, rhs: f64) -> Self {
+        self - Self::from(rhs)
     }
 }
 
-impl Mul<f64> for Jet {
-    type Output = Jet;
-    fn mul(self, rhs: f64) -> Jet {
-        self * Jet::from(rhs)
+impl<const S: usize> Mul<f64> for JetOf<S> {
+    type Output = Self;
+    fn mul(self, rhs: f64) -> Self {
+        self * Self::from(rhs)
     }
 }
 
-impl Div<f64> for Jet {
-    type Output = Jet;
-    fn div(self, rhs: f64) -> Jet {
-        self / Jet::from(rhs)
+impl<const S: usize> Div<f64> for JetOf<S> {
+    type Output = Self;
+    fn div(self, rhs: f64) -> Self {
+        self / Self::from(rhs)
     }
 }
 
 /// Sum in ascending order from the first term.
-pub fn sum(x: &[Jet]) -> Jet {
+pub fn sum<const S: usize>(x: &[JetOf<S>]) -> JetOf<S> {
     let mut s = x[0];
     for &term in &x[1..] {
         s += term;
@@ -289,7 +305,7 @@ pub fn sum(x: &[Jet]) -> Jet {
 }
 
 /// `dot` in ascending order from the first term.
-pub fn dot(x: &[Jet], y: &[Jet]) -> Jet {
+pub fn dot<const S: usize>(x: &[JetOf<S>], y: &[JetOf<S>]) -> JetOf<S> {
     let mut s = x[0] * y[0];
     for i in 1..x.len() {
         s += x[i] * y[i];

@@ -1,6 +1,6 @@
 //! Thermodynamic state in reduced variables, and where a density search begins. After feos `state/mod.rs`.
 
-use crate::jet::{self, Jet};
+use crate::jet::{self, JetOf};
 
 /// Initial values in a density iteration.
 #[derive(Clone, Copy, Debug, PartialEq)]
@@ -14,23 +14,23 @@ pub enum DensityInitialization {
 }
 
 /// Thermodynamic state of the system in reduced variables including their derivatives.
-pub struct StateHD {
+pub struct StateHD<const S: usize> {
     /// temperature in Kelvin
-    pub temperature: Jet,
+    pub temperature: JetOf<S>,
     /// mole fractions
-    pub molefracs: Vec<Jet>,
+    pub molefracs: Vec<JetOf<S>>,
     /// partial number densities in Angstrom^-3
-    pub partial_density: Vec<Jet>,
+    pub partial_density: Vec<JetOf<S>>,
 }
 
-impl StateHD {
+impl<const S: usize> StateHD<S> {
     /// Create a new `StateHD` for given temperature, volume and composition.
-    pub fn new(temperature: Jet, volume: Jet, moles: &[Jet]) -> Self {
+    pub fn new(temperature: JetOf<S>, volume: JetOf<S>, moles: &[JetOf<S>]) -> Self {
         Self::new_density(temperature, moles.iter().map(|&n| n / volume).collect())
     }
 
     /// Create a new `StateHD` for given temperature and partial densities
-    pub fn new_density(temperature: Jet, partial_density: Vec<Jet>) -> Self {
+    pub fn new_density(temperature: JetOf<S>, partial_density: Vec<JetOf<S>>) -> Self {
         let sum = jet::sum(&partial_density);
         let molefracs = partial_density.iter().map(|&d| d / sum).collect();
         Self {

@@ -12,6 +12,9 @@ use crate::block::Job;
 use crate::evaluations::{finite, Evaluations, FeosError, FeosResult};
 use crate::float;
 
+/// The kinds whose places are laid out here are 1 to 7.
+pub const STEPPED: u64 = 7;
+
 /// What a quarter stores of its running search.
 #[derive(Clone, Copy, Debug, PartialEq)]
 pub struct Stored {
@@ -985,9 +988,10 @@ pub fn start(job: &Result<Job, u64>) -> Stored {
             };
             place.written()
         }
-        _ => step
+        6 => step
             .after_critical(trial_begins(0, step.usual_start()))
             .written(),
+        kind => unimplemented!("stored places of kind {kind}"),
     }
 }
 
@@ -1018,7 +1022,8 @@ pub fn step(job: &Result<Job, u64>, stored: &Stored) -> Stored {
             let start = step.given_start();
             step.critical_steps(start, Critical::read(stored)).written()
         }
-        _ => step.both_steps(Both::read(stored)).written(),
+        6 => step.both_steps(Both::read(stored)).written(),
+        kind => unimplemented!("stored places of kind {kind}"),
     };
     Stored {
         evaluations: stored.evaluations.wrapping_add(1),
