@@ -42,8 +42,8 @@ fn readable(rng: &mut Rng) -> Filing {
         if !kind_fits(kind.into()) || !count_fits(kind.into(), n.into()) {
             continue;
         }
-        // most requests have few components, those of kind 7 all
-        if n < 4 && !rng.once_in(if kind == 7 { 2 } else { 3 }) {
+        // most requests have few components, those of kinds 7 to 9 all
+        if n < 4 && !rng.once_in(if kind >= 7 { 2 } else { 3 }) {
             continue;
         }
         let block: &[u8; BLOCK] = request[2..].try_into().expect("640 bytes");
@@ -71,10 +71,10 @@ fn make_odd(rng: &mut Rng, filing: &mut Filing) {
 /// Fills what the kind does not read.
 fn fill_unread(rng: &mut Rng, filing: &mut Filing) {
     let (kind, choice) = (filing.kind, filing.choice);
-    if kind == 2 || kind == 3 || kind == 7 {
+    if kind == 2 || kind == 3 || kind >= 7 {
         filing.choice = rng.bits();
     }
-    if kind > 2 {
+    if kind > 2 && kind != 9 {
         filing.pressure = anything(rng);
     }
     if kind == 2 || kind == 4 || kind == 6 || (kind == 1 && choice != 2) {
@@ -256,10 +256,10 @@ pub fn filing(rng: &mut Rng) -> (Filing, Vec<u8>) {
     for refusal in places.into_iter().map(|place| REFUSALS[place]) {
         match refusal {
             2 => filing.kind = outside(rng, filing.kind, KINDS),
-            // kind 7 with the numbers of another
-            3 if filing.n != 2 && rng.once_in(8) => filing.kind = 7,
+            // a kind of two components with the numbers of another
+            3 if filing.n != 2 && rng.once_in(8) => filing.kind = rng.pick(&[7, 8, 9]),
             3 => {
-                filing.n = if filing.kind == 7 && rng.once_in(2) {
+                filing.n = if filing.kind >= 7 && rng.once_in(2) {
                     rng.pick(&[1, 3, 4, 5, 6, 7, 8])
                 } else {
                     outside(rng, filing.n, 8)

@@ -2,11 +2,11 @@
 
 use crate::block::{adds_up, lengths, sum_of, BLOCK, KINDS, REQUEST};
 use crate::critical_point::matrix;
-use crate::cubic::PengRobinson;
+use crate::cubic::{PengRobinson, PengRobinsonRecord};
 use crate::density_iteration::{_pressure_spinodal, _pressure_spinodal_branch};
 use crate::evaluations::Evaluations;
 use crate::jet::Jet16;
-use crate::random::{blend, blend_of_two, make_alike, Blend, Rng};
+use crate::random::{blend, blend_of_two, blend_on_line, make_alike, Blend, Rng};
 use crate::residual::plain;
 use crate::state::DensityInitialization::{Liquid, Vapor};
 
@@ -95,11 +95,11 @@ impl Draft {
     }
 
     fn uses_pressure(&self) -> bool {
-        self.kind == 1 || self.kind == 2
+        matches!(self.kind, 1 | 2 | 9)
     }
 
     fn uses_start(&self) -> bool {
-        matches!(self.kind, 3 | 5 | 7) || (self.kind == 1 && self.choice == 2)
+        matches!(self.kind, 3 | 5 | 7 | 8 | 9) || (self.kind == 1 && self.choice == 2)
     }
 
     fn uses_choice(&self) -> bool {
@@ -175,6 +175,35 @@ fn start(rng: &mut Rng, seen: &Seen, t: f64) -> f64 {
     }
 }
 
+/// A temperature for a point of the critical line: between the pure critical temperatures and beyond them.
+fn line_temperature(rng: &mut Rng, seen: &Seen) -> f64 {
+    let (low, high) = (
+        seen.eos.tc[0].min(seen.eos.tc[1]),
+        seen.eos.tc[0].max(seen.eos.tc[1]),
+    );
+    match rng.below(12) {
+        // at the ends and beside them
+        0 => rng.pick(&[low, high]) * rng.pick(&[1.0, 0.999, 1.001, 0.99, 1.01]),
+        1 => rng.between(0.5 * low, low),
+        2 => rng.between(high, 1.5 * high),
+        3 => temperature(rng, seen),
+        _ => rng.between(low, high),
+    }
+}
+
+/// A pressure for a point of the critical line: around the pure critical pressures, and as other kinds have them.
+fn line_pressure(rng: &mut Rng, seen: &Seen, records: &[PengRobinsonRecord], t: f64) -> f64 {
+    let [first, second] = [0, 1].map(|i| records[i].pc * PASCAL);
+    match rng.below(12) {
+        // maxima of the line lie above both ends
+        0 | 1 => first.max(second) * rng.between(1.0, 3.0),
+        2 => first.min(second) * rng.between(0.1, 1.0),
+        3 => rng.pick(&[first, second]) * rng.pick(&[1.0, 0.999, 1.001]),
+        4 | 5 => pressure(rng, seen, t),
+        _ => rng.between(first, second),
+    }
+}
+
 fn scale(fractions: &mut [f64], factor: f64) {
     for x in fractions {
         *x *= factor;
@@ -225,7 +254,7 @@ fn ordinary(rng: &mut Rng) -> Draft {
 
 fn ordinary_of(rng: &mut Rng, kind: u8) -> Draft {
     let n = match rng.below(3) {
-        _ if kind == 7 => 2,
+        _ if kind >= 7 => 2,
         0 => 1,
         1 => 1 + rng.below(3),
         _ => 1 + rng.below(8),
@@ -233,10 +262,10 @@ fn ordinary_of(rng: &mut Rng, kind: u8) -> Draft {
     let mut draft = Draft {
         kind,
         n,
-        blend: if kind == 7 {
-            blend_of_two(rng)
-        } else {
-            blend(rng, n)
+        blend: match kind {
+            7 => blend_of_two(rng),
+            8 | 9 => blend_on_line(rng),
+            _ => blend(rng, n),
         },
         choice: 0,
         temperature: 0.0,
@@ -262,8 +291,17 @@ fn ordinary_of(rng: &mut Rng, kind: u8) -> Draft {
     draft.temperature = temperature(rng, &seen);
     draft.pressure = pressure(rng, &seen, draft.temperature);
     draft.start = start(rng, &seen, draft.temperature);
-    if kind == 5 || kind == 7 {
+    if kind >= 8 {
+        draft.temperature = line_temperature(rng, &seen);
+        let records = &draft.blend.coefficients;
+        draft.pressure = line_pressure(rng, &seen, records, draft.temperature);
         if rng.once_in(2) {
+            // near what a search without a start begins with
+            draft.start = seen.max_density * rng.between(0.2, 0.4);
+        }
+    }
+    if kind == 5 || kind >= 7 {
+        if kind != 8 && rng.once_in(2) {
             draft.temperature = 0.0;
         }
         if rng.once_in(2) {
@@ -273,19 +311,35 @@ fn ordinary_of(rng: &mut Rng, kind: u8) -> Draft {
     draft
 }
 
+/// The mixed entry of the matrix of two components.
+fn mixed_entry(eos: &PengRobinson, x: &[f64], t: f64, rho: f64) -> f64 {
+    let x = plain(x);
+    let sqrt_z: Vec<Jet16> = x.iter().map(|x| x.sqrt()).collect();
+    matrix(eos, Jet16::from(t), Jet16::from(rho).recip(), &x, &sqrt_z)[0][1].re()
+}
+
+/// The same at partial densities, whose sum and fractions come with their own rounding.
+pub(crate) fn mixed_entry_at(eos: &PengRobinson, t: f64, rho: [f64; 2]) -> f64 {
+    let density = rho[0] + rho[1];
+    mixed_entry(eos, &rho.map(|rho| rho / density), t, density)
+}
+
 /// Temperature and density at which the mixed entry of the matrix of two components is exactly 0, where they are found among
-/// this temperature and the floats after it, as many as told.
+/// this temperature and the floats after it, as many as told. The density is a start of kinds 8 and 9 where `in_parts`.
 pub(crate) fn uncoupled_state(
     eos: &PengRobinson,
     x: &[f64],
     t: f64,
     temperatures: usize,
+    in_parts: bool,
 ) -> Option<(f64, f64)> {
     let max_density = eos.compute_max_density(x);
-    let x = plain(x);
-    let sqrt_z: Vec<Jet16> = x.iter().map(|x| x.sqrt()).collect();
     let mixed = |t: f64, rho: f64| {
-        matrix(eos, Jet16::from(t), Jet16::from(rho).recip(), &x, &sqrt_z)[0][1].re()
+        if in_parts {
+            mixed_entry_at(eos, t, [x[0] * rho, x[1] * rho])
+        } else {
+            mixed_entry(eos, x, t, rho)
+        }
     };
     // attraction prevails at the lower density, repulsion near the packing limit 1/b
     let [mut low, mut high] = [1e-3, 1.1].map(|part| part * max_density);
@@ -313,15 +367,15 @@ pub(crate) fn uncoupled_state(
 }
 
 /// A critical point whose first evaluation finds the mixed entry exactly 0.
-fn uncoupled(rng: &mut Rng) -> Draft {
-    let mut draft = ordinary_of(rng, 7);
+fn uncoupled(rng: &mut Rng, kind: u8) -> Draft {
+    let mut draft = ordinary_of(rng, kind);
     let seen = draft.seen();
-    // the first trial's temperature or a given one
+    // the temperature of a search without one, or a given one
     let (given, t, temperatures) = match rng.below(4) {
-        0 => (false, 300.0, 1),
+        0 if kind != 8 => (false, 300.0, 1),
         _ => (true, seen.tc * rng.between(0.5, 1.5), 20),
     };
-    if let Some((t, rho)) = uncoupled_state(&seen.eos, &seen.x, t, temperatures) {
+    if let Some((t, rho)) = uncoupled_state(&seen.eos, &seen.x, t, temperatures, kind != 7) {
         draft.temperature = if given { t } else { 0.0 };
         draft.start = rho;
     }
@@ -329,8 +383,8 @@ fn uncoupled(rng: &mut Rng) -> Draft {
 }
 
 /// A critical point of two components with the same coefficients.
-fn alike(rng: &mut Rng) -> Draft {
-    let mut draft = ordinary_of(rng, 7);
+fn alike(rng: &mut Rng, kind: u8) -> Draft {
+    let mut draft = ordinary_of(rng, kind);
     make_alike(rng, &mut draft.blend);
     draft
 }
@@ -701,8 +755,16 @@ pub fn request(rng: &mut Rng) -> [u8; REQUEST] {
         28 => hot(rng),
         29 => flat(rng),
         30 => faint(rng),
-        31 => uncoupled(rng),
-        32 => alike(rng),
+        31 => uncoupled(rng, 7),
+        32 => alike(rng, 7),
+        33 => {
+            let kind = rng.pick(&[8, 9]);
+            uncoupled(rng, kind)
+        }
+        34 => {
+            let kind = rng.pick(&[8, 9]);
+            alike(rng, kind)
+        }
         _ => ordinary(rng),
     };
     fill_unused(rng, &mut draft);
@@ -723,12 +785,15 @@ pub fn request(rng: &mut Rng) -> [u8; REQUEST] {
     }
     if theme == 99 {
         match rng.below(6) {
-            0 => request[0] = rng.pick(&[0, 8, 9, 10, 255]),
+            0 => request[0] = rng.pick(&[0, 10, 11, 16, 255]),
             1 => request[1] = rng.pick(&[0, 9, 10, 255]),
-            2 => (request[0], request[1]) = (rng.pick(&[0, 8]), rng.pick(&[0, 9])),
-            // kind 7 with the block and N of another kind, or with another N
-            3 => request[0] = 7,
-            4 => (request[0], request[1]) = (7, rng.pick(&[0, 1, 3, 4, 8, 9, 255])),
+            2 => (request[0], request[1]) = (rng.pick(&[0, 10]), rng.pick(&[0, 9])),
+            // a kind of two components with the block and N of another kind, or with another N
+            3 => request[0] = rng.pick(&[7, 8, 9]),
+            4 => {
+                request[0] = rng.pick(&[7, 8, 9]);
+                request[1] = rng.pick(&[0, 1, 3, 4, 8, 9, 255]);
+            }
             // another N than the block was made for
             _ => request[1] = 1 + rng.below(8) as u8,
         }

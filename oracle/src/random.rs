@@ -219,6 +219,44 @@ pub fn blend_of_two(rng: &mut Rng) -> Blend {
     blend
 }
 
+/// Places in `FLUIDS` of two whose critical line leads from one pure fluid to the other, or nearly so.
+const PAIRS: [(usize, usize); 12] = [
+    (2, 3),   // propane, n-butane
+    (0, 1),   // methane, ethane
+    (18, 2),  // carbon dioxide, propane
+    (1, 2),   // ethane, propane
+    (4, 3),   // isobutane, n-butane
+    (3, 7),   // n-butane, n-hexane
+    (16, 0),  // nitrogen, methane
+    (16, 17), // nitrogen, oxygen
+    (12, 1),  // ethylene, ethane
+    (14, 15), // benzene, toluene
+    (18, 19), // carbon dioxide, hydrogen sulfide
+    (0, 2),   // methane, propane
+];
+
+/// Two fluids for a point of their critical line: mostly pairs that have one, in either order, else any two.
+pub fn blend_on_line(rng: &mut Rng) -> Blend {
+    let mut blend = blend_of_two(rng);
+    if !rng.once_in(3) {
+        let (first, second) = rng.pick(&PAIRS);
+        let places = if rng.once_in(2) {
+            [first, second]
+        } else {
+            [second, first]
+        };
+        for (record, place) in blend.coefficients.iter_mut().zip(places) {
+            let (_, tc, pc, acentric_factor) = FLUIDS[place];
+            *record = PengRobinsonRecord {
+                tc,
+                pc,
+                acentric_factor,
+            };
+        }
+    }
+    blend
+}
+
 /// Gives both components of a blend of two the same coefficients; mostly no interaction, often halves.
 pub fn make_alike(rng: &mut Rng, blend: &mut Blend) {
     blend.coefficients[1] = blend.coefficients[0];

@@ -261,7 +261,7 @@ pub fn eval_cases(seed: u64, count: usize) -> impl Iterator<Item = EvalCase> {
             // the mixed entry of the matrix is exactly 0
             let eos = PengRobinson::new(&blend.coefficients, &blend.interactions);
             let near = tc * rng.between(0.5, 1.5);
-            let found = uncoupled_state(&eos, &blend.fractions, near, 40);
+            let found = uncoupled_state(&eos, &blend.fractions, near, 40, false);
             (temperature, density) = found.unwrap_or((temperature, density));
         }
         // extreme states

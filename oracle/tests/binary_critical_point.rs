@@ -443,15 +443,16 @@ fn one_missing() {
 #[test]
 fn kinds_and_counts() {
     for kind in 0..=300 {
-        assert_eq!(kind_fits(kind), (1..=7).contains(&kind));
+        assert_eq!(kind_fits(kind), (1..=9).contains(&kind));
         for n in 0..=300 {
-            let fits = if kind == 7 { n == 2 } else { n > 0 && n < 9 };
+            let of_two = (7..=9).contains(&kind);
+            let fits = if of_two { n == 2 } else { n > 0 && n < 9 };
             assert_eq!(count_fits(kind, n), fits);
         }
     }
     let block = two(PROPANE, BUTANE, [0.4, 0.6]).block();
     for n in 0..=255 {
-        assert_eq!(run_request(8, n, &block).to_string(), "2");
+        assert_eq!(run_request(10, n, &block).to_string(), "2");
         assert_eq!(run_request(0, n, &block).to_string(), "2");
         let line = run_request(7, n, &block).to_string();
         if n == 2 {
@@ -564,7 +565,7 @@ fn on_the_board() {
     for n in [0, 1, 3, 8, 9, 256 + 2, u64::MAX] {
         assert_eq!(submit(7, n), board::Answer::Refused(3));
     }
-    assert_eq!(submit(8, 2), board::Answer::Refused(2));
+    assert_eq!(submit(10, 2), board::Answer::Refused(2));
     assert_eq!(submit(256 + 7, 2), board::Answer::Refused(2));
     assert_eq!(submit(7, 2), board::Answer::Ticket(0));
     let (answer, made) = trace_request(7, 2, &block);
@@ -593,7 +594,7 @@ fn on_the_board() {
         assert!(board::fits(&other));
     }
     let mut other = board;
-    board::put(&mut other[..QUARTER], board::kind_at(0), 8);
+    board::put(&mut other[..QUARTER], board::kind_at(0), 10);
     assert!(!board::fits(&other));
     // 149 turns had, as kind 5 may have
     board::put(&mut other[..QUARTER], board::kind_at(0), 5);
@@ -688,7 +689,7 @@ fn generated_evaluations() {
 #[test]
 fn generated_requests() {
     let (mut of_two, mut others, mut uncoupled, mut halves) = (0, 0, 0, 0);
-    for request in requests(2, 20_000) {
+    for request in requests(2, 40_000) {
         if request[0] != 7 {
             continue;
         }

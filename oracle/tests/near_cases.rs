@@ -86,9 +86,11 @@ fn refusals() {
     let zeros = "0000000000000000 0000000000000000 0000000000000000 0";
     assert_eq!(line(3, 1, &[0; BLOCK]), format!("3 11 {zeros}"));
     assert_eq!(line(0, 0, &[0; BLOCK]), "2");
-    assert_eq!(line(8, 1, &[0; BLOCK]), "2");
-    assert_eq!(line(7, 1, &[0; BLOCK]), "3");
-    assert_eq!(line(7, 2, &[0; BLOCK]), format!("7 11 {zeros}"));
+    assert_eq!(line(10, 1, &[0; BLOCK]), "2");
+    for kind in 7..=9 {
+        assert_eq!(line(kind, 1, &[0; BLOCK]), "3");
+        assert_eq!(line(kind, 2, &[0; BLOCK]), format!("{kind} 11 {zeros}"));
+    }
     assert_eq!(line(1, 0, &[0; BLOCK]), "3");
     assert_eq!(line(1, 9, &[0; BLOCK]), "3");
     assert_eq!(line(6, 8, &[0; BLOCK]), format!("6 11 {zeros}"));
@@ -132,7 +134,7 @@ fn generated_requests_are_mixed() {
         census.count(place as u64, &request);
     }
     assert!(census.refused.contains_key(&2) && census.refused.contains_key(&3));
-    for kind in 1..=7u8 {
+    for kind in 1..=9u8 {
         let expected: &[u64] = match kind {
             1 => &[0, 11, 12, 13, 14, 15, 16, 17, 21, 22, 27],
             2 => &[0, 11, 12, 13, 14, 15, 16, 17, 22, 24, 27],

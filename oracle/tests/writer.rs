@@ -248,7 +248,7 @@ fn block_of_eight() {
 fn every_kind_writes_everything() {
     for n in 1..=8 {
         let first = written(&distinct(1, n));
-        for kind in (2..=7).filter(|&kind| count_fits(kind, n)) {
+        for kind in (2..=9).filter(|&kind| count_fits(kind, n)) {
             assert_eq!(written(&distinct(kind, n)), first, "{kind} {n}");
         }
     }
@@ -326,7 +326,7 @@ type Fault = fn(&mut Filing, &mut usize);
 /// Faults of a filing of kind 1 with two components that starts from its start.
 const FAULTS: &[(u64, Fault)] = &[
     (2, |f, _| f.kind = 0),
-    (2, |f, _| f.kind = 8),
+    (2, |f, _| f.kind = 10),
     (2, |f, _| f.kind = 255),
     (2, |f, _| f.kind = 256 + 1),
     (2, |f, _| f.kind = (1 << 16) + 1),
@@ -345,11 +345,15 @@ const FAULTS: &[(u64, Fault)] = &[
     (3, |f, _| f.n = 1 << 63),
     (3, |f, _| f.n = (1 << 63) + 2),
     (3, |f, _| f.n = u64::MAX),
-    // kind 7 is for two components
+    // kinds 7 to 9 are for two components
     (3, |f, _| (f.kind, f.n) = (7, 1)),
     (3, |f, _| (f.kind, f.n) = (7, 3)),
     (3, |f, _| (f.kind, f.n) = (7, 8)),
     (3, |f, _| (f.kind, f.n) = (7, 256 + 2)),
+    (3, |f, _| (f.kind, f.n) = (8, 1)),
+    (3, |f, _| (f.kind, f.n) = (8, 8)),
+    (3, |f, _| (f.kind, f.n) = (9, 3)),
+    (3, |f, _| (f.kind, f.n) = (9, 256 + 2)),
     (8, |_, length| *length = 0),
     (8, |_, length| *length = 639),
     (8, |_, length| *length = 641),
@@ -532,48 +536,64 @@ fn refusals_by_kind() {
     });
 }
 
-/// Kind 7 reads fractions, and of the conditions temperature and start as kind 5 does.
+/// Kinds 7, 8 and 9 read fractions and start; 8 has to have a temperature, 9 reads the pressure.
 #[test]
-fn refusals_of_kind_7() {
-    let expect = |name: &str, expected: u64, fault: &dyn Fn(&mut Filing)| {
-        let mut filing = distinct(7, 2);
-        fault(&mut filing);
-        assert_eq!(answer(&filing), expected, "{name}");
+fn refusals_of_two_components() {
+    let expect = |name: &str, expected: [u64; 3], fault: &dyn Fn(&mut Filing)| {
+        for (kind, expected) in (7..=9).zip(expected) {
+            let mut filing = distinct(kind, 2);
+            fault(&mut filing);
+            assert_eq!(answer(&filing), expected, "{name}, kind {kind}");
+        }
     };
     let nan = f64::NAN;
-    expect("sound", 0, &|_| {});
-    expect("last acentric factor", 12, &|f| f.coefficients[5] = nan);
-    expect("interaction", 13, &|f| f.interactions[0] = nan);
-    expect("fraction", 14, &|f| f.fractions = vec![1.0, -0.0]);
-    expect("fraction 0", 0, &|f| f.fractions = vec![1.0, 0.0]);
-    expect("sum", 17, &|f| f.fractions[1] = 0.0);
-    expect("temperature", 15, &|f| f.temperature = nan);
-    expect("no temperature", 0, &|f| f.temperature = 0.0);
-    expect("temperature -0", 15, &|f| f.temperature = -0.0);
-    expect("start", 15, &|f| f.start = f64::INFINITY);
-    expect("no start", 0, &|f| f.start = 0.0);
-    expect("start -0", 0, &|f| f.start = -0.0);
-    expect("negative start", 0, &|f| f.start = -1.0);
-    expect("pressure", 0, &|f| f.pressure = nan);
+    expect("sound", [0; 3], &|_| {});
+    expect("last acentric factor", [12; 3], &|f| {
+        f.coefficients[5] = nan
+    });
+    expect("interaction", [13; 3], &|f| f.interactions[0] = nan);
+    expect("fraction", [14; 3], &|f| f.fractions = vec![1.0, -0.0]);
+    expect("fraction 0", [0; 3], &|f| f.fractions = vec![1.0, 0.0]);
+    expect("sum", [17; 3], &|f| f.fractions[1] = 0.0);
+    expect("temperature", [15; 3], &|f| f.temperature = nan);
+    expect("infinite", [15; 3], &|f| f.temperature = f64::INFINITY);
+    expect("no temperature", [0, 15, 0], &|f| f.temperature = 0.0);
+    expect("temperature -0", [15; 3], &|f| f.temperature = -0.0);
+    expect("below 0", [15; 3], &|f| f.temperature = -300.0);
+    expect("start", [15; 3], &|f| f.start = f64::INFINITY);
+    expect("no start", [0; 3], &|f| f.start = 0.0);
+    expect("start -0", [0; 3], &|f| f.start = -0.0);
+    expect("negative start", [0; 3], &|f| f.start = -1.0);
+    expect("pressure", [0, 0, 15], &|f| f.pressure = nan);
+    expect("infinite pressure", [0, 0, 15], &|f| {
+        f.pressure = f64::NEG_INFINITY
+    });
+    for pressure in [0.0, -0.0, -1e300, f64::MAX, 5e-324] {
+        expect("finite pressure", [0; 3], &|f| f.pressure = pressure);
+    }
     for choice in [0, 1, 2, 3, 1 << 32, u64::MAX] {
-        expect("choice", 0, &|f| f.choice = choice);
+        expect("choice", [0; 3], &|f| f.choice = choice);
     }
     // the maximum density of the blend, not of a component
     let small = |f: &mut Filing, i: usize| {
         (f.coefficients[3 * i], f.coefficients[3 * i + 1]) = (1e-7, 1e308)
     };
-    expect("component 0", 0, &|f| small(f, 0));
-    expect("component 1", 0, &|f| small(f, 1));
-    expect("both components", 16, &|f| (0..2).for_each(|i| small(f, i)));
+    expect("component 0", [0; 3], &|f| small(f, 0));
+    expect("component 1", [0; 3], &|f| small(f, 1));
+    expect("both components", [16; 3], &|f| {
+        (0..2).for_each(|i| small(f, i))
+    });
     // N other than 2, with lists to match
-    for n in (0..=9).filter(|&n| n != 2) {
-        assert_eq!(answer(&distinct(7, n)), 3, "{n}");
+    for kind in 7..=9 {
+        for n in (0..=9).filter(|&n| n != 2) {
+            assert_eq!(answer(&distinct(kind, n)), 3, "{kind} {n}");
+        }
     }
 }
 
 #[test]
 fn lengths_of_lists() {
-    let pairs = (1..=7).flat_map(|kind| (1..=8).map(move |n| (kind, n)));
+    let pairs = (1..=9).flat_map(|kind| (1..=8).map(move |n| (kind, n)));
     for (kind, n) in pairs.filter(|&(kind, n)| count_fits(kind, n)) {
         let right = [3 * n, n * (n - 1) / 2, n].map(|count| count as usize);
         for (which, right) in right.into_iter().enumerate() {
@@ -754,10 +774,10 @@ fn faults_of(filing: &Filing, length: usize) -> Vec<u64> {
     // an unknown kind counts as one that reads them
     let reads_fractions = kind != 5 && kind != 6;
     let sum: f64 = filing.fractions.iter().sum();
-    let critical = kind == 5 || kind == 7;
-    let temperature = positive(filing.temperature) || (critical && filing.temperature == 0.0);
+    let none = kind == 5 || kind == 7 || kind == 9;
+    let temperature = positive(filing.temperature) || (none && filing.temperature == 0.0);
     let minus_zero = filing.temperature.to_bits() == 1 << 63;
-    let start = kind == 3 || critical || (kind == 1 && filing.choice == 2);
+    let start = kind == 3 || none || kind == 8 || (kind == 1 && filing.choice == 2);
     let choices = match kind {
         1 => 3,
         4 => 2,
@@ -777,8 +797,11 @@ fn faults_of(filing: &Filing, length: usize) -> Vec<u64> {
         }
     };
     let holds = [
-        (2, !(1..=7).contains(&kind)),
-        (3, !(1..=8).contains(&n) || (kind == 7 && n != 2)),
+        (2, !(1..=9).contains(&kind)),
+        (
+            3,
+            !(1..=8).contains(&n) || (kind > 6 && kind < 10 && n != 2),
+        ),
         (8, length != 640),
         (11, !fits),
         (
@@ -806,7 +829,7 @@ fn faults_of(filing: &Filing, length: usize) -> Vec<u64> {
             15,
             !temperature
                 || minus_zero
-                || (kind <= 2 && !filing.pressure.is_finite())
+                || ((kind <= 2 || kind == 9) && !filing.pressure.is_finite())
                 || (start && !filing.start.is_finite()),
         ),
         (
@@ -887,7 +910,7 @@ fn generated_filings_are_mixed() {
             }
         }
     }
-    for kind in 1..=7 {
+    for kind in 1..=9 {
         let pure = kind == 5 || kind == 6;
         for answer in [0].into_iter().chain(ORDER) {
             let possible = answer != 2 && !(pure && (answer == 14 || answer == 17));
@@ -902,7 +925,7 @@ fn generated_filings_are_mixed() {
     assert!(census.answers[&(0, 2)] >= 500);
     let accepted: u64 = census.written.values().sum();
     assert!((8_000..=12_000).contains(&accepted), "{accepted}");
-    for kind in [0, 8, 255, 256 + 1, 256 + 7, (1 << 32) + 3, u64::MAX] {
+    for kind in [0, 10, 255, 256 + 1, 256 + 7, (1 << 32) + 3, u64::MAX] {
         assert!(kinds.contains(&kind), "{kind}");
     }
     for n in [0, 9, (1 << 32) + 1, (1 << 62) + 1, 1 << 63, u64::MAX] {
