@@ -1,21 +1,26 @@
 #!/usr/bin/env python3
 """Makes crates/eos_vectors/stdin and stdout: single evaluations, and what the oracle makes of them.
 
-usage: tools/eos_vectors.py [ORACLE]      run at the project's root; ORACLE is oracle/target/release/oracle by default
+usage: tools/eos_vectors.py [ORACLE] [FOLDER]      run at the project's root; ORACLE is oracle/target/release/oracle by default
 
 stdin: the oracle's own evaluations (--evals); each evaluation on blends of 1 to 8 real fluids, criticality of two on blends of two;
 the evaluations in turn on every pair of a special temperature and a special density; and each at the covolume, where the
-repulsive term divides by about zero.
-stdout: the lines of `oracle --evals-run`.
+repulsive term divides by about zero. Then criticality by two partial densities (7), with the pressure too (8): on pairs of real
+fluids along their critical line and away from it, on special numbers in each place, and at the covolume.
+stdout: the lines of `oracle --evals-run`, each as the rules give it that are worked in tools/rules.py.
 """
 import random
 import struct
 import subprocess
 import sys
 
-EVALUATIONS = range(1, 7)
+import rules
+
+EVALUATIONS = range(1, 9)
 # criticality of two components, for no other number
 OF_TWO = 6
+# by partial densities in the place of the fractions, with a pressure in that of the density
+BY_PARTS = [7, 8]
 
 # critical temperature in K, critical pressure in Pa, acentric factor
 FLUIDS = [
@@ -46,7 +51,7 @@ def covolume(fluid):
 
 def own_evaluations(rng):
     for n in range(1, 9):
-        for evaluation in (e for e in EVALUATIONS if e != OF_TWO or n == 2):
+        for evaluation in (e for e in range(1, 7) if e != OF_TWO or n == 2):
             for _ in range(20 if evaluation == OF_TWO else 2):
                 fluids = rng.sample(FLUIDS, n)
                 interactions = [rng.uniform(-0.1, 0.2) for _ in range(n * (n - 1) // 2)]
@@ -55,10 +60,50 @@ def own_evaluations(rng):
                 yield record(evaluation, fluids, interactions, fractions, rng.uniform(100.0, 700.0), rng.uniform(0.01, 0.95) / b)
     for i, (temperature, density) in enumerate((t, rho) for t in TEMPERATURES for rho in DENSITIES):
         yield record(1 + i % 6, FLUIDS[:2], [0.01], [0.4, 0.6], temperature, density)
-    for evaluation in EVALUATIONS:
+    for evaluation in range(1, 7):
         for fluid in FLUIDS:
             fluids, interactions, fractions = ([fluid] * 2, [0.0], [0.5, 0.5]) if evaluation == OF_TWO else ([fluid], [], [1.0])
             yield record(evaluation, fluids, interactions, fractions, fluid[0], 1.0 / covolume(fluid))
+
+
+def by_parts(rng):
+    for evaluation in BY_PARTS:
+        for _ in range(60):
+            fluids = rng.sample(FLUIDS, 2)
+            x = rng.choice([0.5, rng.uniform(0.01, 0.99), 1e-4, 1e-9])
+            fractions = rng.sample([x, 1 - x], 2)
+            b = sum(z * covolume(f) for z, f in zip(fractions, fluids))
+            density = rng.choice([0.27, rng.uniform(0.01, 0.95)]) / b
+            temperature = rng.uniform(0.7, 1.3) * sum(z * f[0] for z, f in zip(fractions, fluids))
+            pressure = rng.choice([rng.uniform(0.2, 3.0) * fluids[0][1] / 13806490.0, 0.0, -0.1, 1e-30])
+            yield record(evaluation, fluids, [rng.uniform(-0.1, 0.2)], [z * density for z in fractions], temperature, pressure)
+        # components alike
+        for x in [0.5, 0.3]:
+            for density in [0.001, 0.003, 0.008]:
+                yield record(evaluation, [FLUIDS[2]] * 2, [0.0], [x * density, (1 - x) * density], 370.0, 0.3)
+        # special numbers, one place at a time, then in both densities
+        state = [400.0, 0.0012, 0.0009, 0.3]
+        for place in range(4):
+            for number in TEMPERATURES + DENSITIES:
+                t, first, second, pressure = state[:place] + [number] + state[place + 1 :]
+                yield record(evaluation, FLUIDS[2:4], [0.01], [first, second], t, pressure)
+        for number in DENSITIES:
+            for second in [number, -number]:
+                yield record(evaluation, FLUIDS[2:4], [0.01], [number, second], 400.0, 0.3)
+        for fluid in FLUIDS:
+            half = 0.5 / covolume(fluid)
+            yield record(evaluation, [fluid] * 2, [0.0], [half, half], fluid[0], 0.3)
+
+
+def by_the_rules(r):
+    """The line as tools/rules.py works it out."""
+    n = r[1]
+    numbers = list(struct.unpack(f"<{(len(r) - 2) // 8}d", r[2:]))
+    fluids = [tuple(numbers[3 * i : 3 * i + 3]) for i in range(n)]
+    rest = numbers[3 * n :]
+    pairs = n * (n - 1) // 2
+    yields = rules.evaluate(r[0], fluids, rest[:pairs], rest[pairs : pairs + n], *rest[pairs + n :])
+    return " ".join(map(rules.word, yields))
 
 
 def split(records):
@@ -73,13 +118,17 @@ def split(records):
 
 def main():
     oracle = sys.argv[1] if len(sys.argv) > 1 else "oracle/target/release/oracle"
-    drawn = subprocess.run([oracle, "--evals", "4", "1000"], check=True, capture_output=True).stdout
-    records = list(split(drawn)) + list(own_evaluations(random.Random(4)))
+    folder = sys.argv[2] if len(sys.argv) > 2 else "crates/eos_vectors"
+    # 1,000 of evaluations 1 to 6 and 332 of 7 and 8
+    drawn = subprocess.run([oracle, "--evals", "4", "1332"], check=True, capture_output=True).stdout
+    records = list(split(drawn)) + list(own_evaluations(random.Random(4))) + list(by_parts(random.Random(6)))
     lines = subprocess.run([oracle, "--evals-run"], input=b"".join(records), check=True, capture_output=True).stdout
     assert len(lines.splitlines()) == len(records)
-    with open("crates/eos_vectors/stdin", "wb") as f:
+    for place, (r, line) in enumerate(zip(records, lines.decode().splitlines())):
+        assert line == by_the_rules(r), f"evaluation {place}"
+    with open(f"{folder}/stdin", "wb") as f:
         f.write(b"".join(records))
-    with open("crates/eos_vectors/stdout", "wb") as f:
+    with open(f"{folder}/stdout", "wb") as f:
         f.write(lines)
 
     finite = {e: 0 for e in EVALUATIONS}

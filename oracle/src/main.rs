@@ -125,7 +125,7 @@ fn evals_run(input: &mut impl Read, out: &mut impl Write) -> io::Result<()> {
         let n = usize::from(record[1]);
         if head < 2 || !eval_fits(record[0], n) {
             return Err(invalid(
-                "no evaluation byte 1 to 5 and N 1 to 8, or 6 and 2",
+                "no evaluation byte 1 to 5 and N 1 to 8, or 6 to 8 and 2",
             ));
         }
         let rest = &mut record[2..eval_record(n)];

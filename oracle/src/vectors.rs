@@ -1,13 +1,13 @@
 //! Makers of test input for single jet operations and single evaluations, and what the oracle answers to it; roots and
 //! logarithms of floats in words.
 
-use crate::critical_point::{criticality, stability};
+use crate::critical_point::{criticality, criticality_p, criticality_t, stability};
 use crate::cubic::{PengRobinson, PengRobinsonRecord};
 use crate::density_iteration::_chemical_potential;
 use crate::float;
 use crate::generate::uncoupled_state;
 use crate::jet::{Jet, SIZE};
-use crate::random::{blend, blend_of_two, make_alike, Blend, Rng};
+use crate::random::{blend, blend_of_two, blend_on_line, make_alike, Blend, Rng};
 
 /// The operations on jets; the place is the operation's byte. `true`: takes two jets.
 pub const OPERATIONS: [(&str, bool); 12] = [
@@ -61,21 +61,27 @@ pub fn words(x: &[f64]) -> String {
     words.join(" ")
 }
 
-fn random_jet(rng: &mut Rng) -> Jet {
+/// A coefficient of a jet of this shape.
+fn coefficient(rng: &mut Rng, shape: usize) -> f64 {
+    match shape {
+        0..=3 => rng.between(-2.0, 2.0),
+        4 => rng.any_finite(),
+        5 => rng.special(),
+        6 if rng.once_in(3) => rng.special(),
+        6 => rng.between(-10.0, 10.0),
+        7 => rng.log_between(1e-12, 1e12),
+        8 if rng.once_in(2) => 0.0,
+        8 => rng.between(-1.0, 1.0),
+        _ => 0.0,
+    }
+}
+
+/// The coefficients beside e3 come from random numbers of their own, so that the others do not hang on them.
+fn random_jet(rng: &mut Rng, beside: &mut Rng) -> Jet {
     let shape = rng.below(10);
     let mut c = [0.0; SIZE];
-    for x in &mut c {
-        *x = match shape {
-            0..=3 => rng.between(-2.0, 2.0),
-            4 => rng.any_finite(),
-            5 => rng.special(),
-            6 if rng.once_in(3) => rng.special(),
-            6 => rng.between(-10.0, 10.0),
-            7 => rng.log_between(1e-12, 1e12),
-            8 if rng.once_in(2) => 0.0,
-            8 => rng.between(-1.0, 1.0),
-            _ => 0.0,
-        };
+    for x in &mut c[..16] {
+        *x = coefficient(rng, shape);
     }
     // the leading coefficient decides quotient, root and logarithm
     c[0] = match rng.below(12) {
@@ -94,6 +100,12 @@ fn random_jet(rng: &mut Rng) -> Jet {
         let mark = rng.pick(&[1, 4, 8, 0]);
         if mark != 0 {
             c[mark] = 1.0;
+        } else if beside.once_in(2) {
+            c[16] = 1.0;
+        }
+    } else if !beside.once_in(4) {
+        for x in &mut c[16..] {
+            *x = coefficient(beside, shape);
         }
     }
     Jet { c }
@@ -101,12 +113,12 @@ fn random_jet(rng: &mut Rng) -> Jet {
 
 /// Every operation in turn, on random and special jets.
 pub fn jet_cases(seed: u64, count: usize) -> impl Iterator<Item = JetCase> {
-    let mut rng = Rng::new(seed);
+    let (mut rng, mut beside) = (Rng::new(seed), Rng::new(!seed));
     (0..count).map(move |i| {
         let operation = (i % OPERATIONS.len()) as u8;
-        let a = random_jet(&mut rng);
+        let a = random_jet(&mut rng, &mut beside);
         let b = if OPERATIONS[usize::from(operation)].1 {
-            random_jet(&mut rng)
+            random_jet(&mut rng, &mut beside)
         } else {
             Jet::zero()
         };
@@ -171,12 +183,15 @@ fn float_at(bytes: &[u8], at: usize) -> f64 {
 
 /// One evaluation to be made: 1 `p_dpdrho`, 2 `p_dpdrho_d2pdrho2`, 3 `_chemical_potential`,
 /// 4 `criticality_conditions` and 5 `stability_condition` with derivatives, of component 0 with fraction 1,
-/// 6 `criticality_conditions` of two components with derivatives.
+/// 6 `criticality_conditions` of two components with derivatives, 7 the same by the partial densities,
+/// 8 `criticality_conditions_p` with derivatives.
 #[derive(Clone, Debug)]
 pub struct EvalCase {
     pub evaluation: u8,
+    /// in 7 and 8 with the partial densities in the place of the fractions
     pub blend: Blend,
     pub temperature: f64,
+    /// in 8 the pressure; 7 reads none
     pub density: f64,
 }
 
@@ -185,14 +200,14 @@ pub fn eval_record(n: usize) -> usize {
     2 + 24 * n + 4 * n * (n - 1) + 8 * n + 16
 }
 
-/// The evaluation bytes are 1 to 6.
-const EVALUATIONS: u8 = 6;
+/// The evaluation bytes are 1 to 8.
+const EVALUATIONS: u8 = 8;
 
-/// Whether an evaluation can be made of n components: 6 of two, the others of 1 to 8.
+/// Whether an evaluation can be made of n components: 6 to 8 of two, the others of 1 to 8.
 pub fn eval_fits(evaluation: u8, n: usize) -> bool {
     match evaluation {
-        6 => n == 2,
-        _ => (1..EVALUATIONS).contains(&evaluation) && (1..=8).contains(&n),
+        6..=EVALUATIONS => n == 2,
+        _ => (1..6).contains(&evaluation) && (1..=8).contains(&n),
     }
 }
 
@@ -219,11 +234,93 @@ fn any_two(rng: &mut Rng) -> Blend {
     blend
 }
 
-/// The evaluations in turn, on ordinary, near-critical and extreme states of 1, 2, 3 and 8 components.
+/// An evaluation by partial densities: at ordinary, near-critical and odd ones of pairs with a critical line and of any two.
+fn line_case(rng: &mut Rng, evaluation: u8) -> EvalCase {
+    let mut blend = if rng.once_in(3) {
+        any_two(rng)
+    } else {
+        blend_on_line(rng)
+    };
+    let eos = PengRobinson::new(&blend.coefficients, &blend.interactions);
+    let x = [blend.fractions[0], blend.fractions[1]];
+    let max_density = eos.compute_max_density(&x);
+    let tc = x[0] * eos.tc[0] + x[1] * eos.tc[1];
+    let (mut temperature, mut density) = match rng.below(4) {
+        0 => (
+            tc * rng.between(0.95, 1.05),
+            0.3 * max_density * rng.between(0.9, 1.1),
+        ),
+        1 => (
+            rng.between(50.0, 900.0),
+            max_density * rng.log_between(1e-9, 1.0),
+        ),
+        _ => (
+            tc * rng.between(0.3, 2.0),
+            max_density * rng.between(0.001, 1.1),
+        ),
+    };
+    if rng.once_in(12) {
+        // the mixed entry of the matrix is exactly 0
+        let near = tc * rng.between(0.5, 1.5);
+        let found = uncoupled_state(&eos, &x, near, 40, true);
+        (temperature, density) = found.unwrap_or((temperature, density));
+    }
+    let mut rho = x.map(|x| x * density);
+    let i = rng.below(2);
+    let mut pressure = match rng.below(8) {
+        0 => rng.special(),
+        1 => rng.any_finite(),
+        2 => 0.0,
+        _ => blend.coefficients[i].pc / 13806490.0 * rng.between(0.2, 3.0),
+    };
+    // odd and extreme states
+    match rng.below(36) {
+        0 => temperature = rng.special(),
+        1 => rho[i] = rng.special(),
+        2 => (temperature, rho[i]) = (rng.any_finite(), rng.any_finite()),
+        3 => temperature = rng.log_between(1e-300, 1e300),
+        4 => rho[i] = rng.log_between(1e-308, 1e300),
+        5 => rho = rho.map(|rho| rho * rng.between(1.1, 3.0)),
+        6 => rho = rho.map(|rho| -rho),
+        7 => rho[i] = -rho[i],
+        // a sum of 0
+        8 => rho[i] = -rho[1 - i],
+        9 => rho[i] = 0.0,
+        10 => rho[i] = rho[1 - i],
+        11 => rho[i] = 1e-4 * max_density,
+        12 => rho = rho.map(|rho| rho * rng.log_between(1e-300, 1e-20)),
+        13 => {
+            let k = rng.special();
+            let record = &mut blend.coefficients[i];
+            match rng.below(3) {
+                0 => record.tc = k,
+                1 => record.pc = k,
+                _ => record.acentric_factor = k,
+            }
+        }
+        14 => blend.interactions[0] = rng.special(),
+        15 => blend.coefficients[i].pc = rng.log_between(1e-290, 1e290),
+        16 => pressure = rng.log_between(1e-300, 1e300),
+        _ => {}
+    }
+    blend.fractions = rho.to_vec();
+    EvalCase {
+        evaluation,
+        blend,
+        temperature,
+        density: pressure,
+    }
+}
+
+/// The evaluations in turn, on ordinary, near-critical and extreme states of 1, 2, 3 and 8 components. Those by partial
+/// densities come from random numbers of their own, so that the others do not hang on them.
 pub fn eval_cases(seed: u64, count: usize) -> impl Iterator<Item = EvalCase> {
-    let mut rng = Rng::new(seed);
+    let (mut rng, mut on_line) = (Rng::new(seed), Rng::new(!seed));
     (0..count).map(move |i| {
         let evaluation = (i % usize::from(EVALUATIONS)) as u8 + 1;
+        if evaluation > 6 {
+            return line_case(&mut on_line, evaluation);
+        }
         let (n, mut blend) = if evaluation == 6 {
             (2, any_two(&mut rng))
         } else {
@@ -376,7 +473,9 @@ impl EvalCase {
                 let (f, df) = stability(&eos.subset(0), t, rho, &[1.0]);
                 vec![f, df]
             }
-            _ => six(criticality(&eos, t, rho, x)),
+            6 => six(criticality(&eos, t, rho, x)),
+            7 => criticality_t(&eos, t, [x[0], x[1]]).to_vec(),
+            _ => criticality_p(&eos, self.density, t, [x[0], x[1]]).to_vec(),
         }
     }
 }
