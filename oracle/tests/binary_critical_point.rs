@@ -1,6 +1,9 @@
 //! Kind 7: critical points of blends of two against the pure ones, its matrix and conditions against derivatives worked out by
 //! hand, its refusals; and bits of one component, which a second one must not change.
 
+mod common;
+
+use common::*;
 use oracle::block::{count_fits, kind_fits};
 use oracle::board::{self, BOARD, QUARTER};
 use oracle::critical_point::{critical_point, matrix};
@@ -11,89 +14,6 @@ use oracle::random::{blend_of_two, Rng};
 use oracle::vectors::{eval_cases, eval_fits, words, EvalCase};
 use oracle::{criticality, run_request, trace_request, Jet, BLOCK};
 use oracle::{PengRobinson, PengRobinsonRecord};
-use std::f64::consts::SQRT_2;
-
-const ZEROS: &str = "0000000000000000 0000000000000000 0000000000000000";
-
-const fn fluid(tc: f64, pc: f64, acentric_factor: f64) -> PengRobinsonRecord {
-    PengRobinsonRecord {
-        tc,
-        pc,
-        acentric_factor,
-    }
-}
-
-const METHANE: PengRobinsonRecord = fluid(190.56, 4599000.0, 0.0115);
-const PROPANE: PengRobinsonRecord = fluid(369.83, 4248000.0, 0.1523);
-const BUTANE: PengRobinsonRecord = fluid(425.12, 3796000.0, 0.2002);
-const WATER: PengRobinsonRecord = fluid(647.10, 22064000.0, 0.3449);
-const HYDROGEN: PengRobinsonRecord = fluid(33.19, 1313000.0, -0.2160);
-const OXYGEN: PengRobinsonRecord = fluid(154.58, 5043000.0, 0.0222);
-const HELIUM: PengRobinsonRecord = fluid(5.20, 228000.0, -0.3900);
-
-/// The numbers of a request.
-#[derive(Clone)]
-struct Numbers {
-    coefficients: Vec<PengRobinsonRecord>,
-    interactions: Vec<f64>,
-    fractions: Vec<f64>,
-    choice: u64,
-    temperature: f64,
-    pressure: f64,
-    start: f64,
-}
-
-/// Two components, no interaction, neither temperature nor start.
-fn two(first: PengRobinsonRecord, second: PengRobinsonRecord, fractions: [f64; 2]) -> Numbers {
-    Numbers {
-        coefficients: vec![first, second],
-        interactions: vec![0.0],
-        fractions: fractions.to_vec(),
-        choice: 0,
-        temperature: 0.0,
-        pressure: 0.0,
-        start: 0.0,
-    }
-}
-
-impl Numbers {
-    fn block(&self) -> [u8; BLOCK] {
-        let words = |x: &[f64]| x.iter().map(|x| x.to_bits()).collect::<Vec<u64>>();
-        let coefficients: Vec<f64> = self
-            .coefficients
-            .iter()
-            .flat_map(|r| [r.tc, r.pc, r.acentric_factor])
-            .collect();
-        let mut conditions = vec![self.choice];
-        conditions.extend(words(&[self.temperature, self.pressure, self.start]));
-        let parts = [
-            words(&coefficients),
-            words(&self.interactions),
-            words(&self.fractions),
-            conditions,
-        ];
-        let mut block = [0; BLOCK];
-        let mut at = 16;
-        for (i, part) in parts.iter().enumerate() {
-            block[4 * i..4 * i + 2].copy_from_slice(&(at as u16).to_le_bytes());
-            block[4 * i + 2..4 * i + 4].copy_from_slice(&(8 * part.len() as u16).to_le_bytes());
-            for word in part {
-                block[at..at + 8].copy_from_slice(&word.to_le_bytes());
-                at += 8;
-            }
-        }
-        block
-    }
-
-    fn line(&self, kind: u8) -> String {
-        run_request(kind, self.coefficients.len() as u8, &self.block()).to_string()
-    }
-
-    /// The line of a refusal without an evaluation.
-    fn refused(&self, status: u64) {
-        assert_eq!(self.line(7), format!("7 {status} {ZEROS} 0"));
-    }
-}
 
 fn critical(
     components: &[PengRobinsonRecord],
@@ -107,11 +27,6 @@ fn critical(
 
 fn pure(component: PengRobinsonRecord) -> [f64; 2] {
     critical(&[component], &[], &[1.0], None).unwrap()
-}
-
-fn close(x: f64, y: f64, relative: f64) {
-    let scale = x.abs().max(y.abs());
-    assert!((x - y).abs() <= relative * scale, "{x:e} and {y:e}");
 }
 
 // ---- known critical points
@@ -216,109 +131,6 @@ fn an_exchange_of_like_components() {
 
 // ---- the matrix and both conditions by hand
 
-/// The equation of state with its derivatives by the mole numbers as they come out on paper: A/T is
-/// -N ln(1 - B/V) - (D/T) g(B) with B the co-volumes' sum, D that of the attractions and g(B) = ln((V+pB)/(V+qB))/(2^1.5 B).
-struct Analytic {
-    t: f64,
-    v: f64,
-    z: [f64; 2],
-    b: [f64; 2],
-    /// attraction of each pair
-    a: [[f64; 2]; 2],
-    /// g and its three derivatives by B
-    g: [f64; 4],
-}
-
-impl Analytic {
-    fn new(eos: &PengRobinson, t: f64, rho: f64, z: [f64; 2]) -> Self {
-        let v = 1.0 / rho;
-        let b = [eos.b[0], eos.b[1]];
-        let ak = [0, 1].map(|i| {
-            let root = 1.0 + eos.kappa[i] * (1.0 - (t / eos.tc[i]).sqrt());
-            eos.a[i] * root * root
-        });
-        let a = [0, 1].map(|i| [0, 1].map(|j| (ak[i] * ak[j]).sqrt() * (1.0 - eos.k_ij[i][j])));
-        let sum = z[0] * b[0] + z[1] * b[1];
-        let (p, q) = (1.0 + SQRT_2, 1.0 - SQRT_2);
-        let (up, down) = (p / (v + p * sum), q / (v + q * sum));
-        // the logarithm and its derivatives, then those of its quotient by B
-        let l = [
-            ((v + p * sum) / (v + q * sum)).ln(),
-            up - down,
-            down.powi(2) - up.powi(2),
-            2.0 * (up.powi(3) - down.powi(3)),
-        ];
-        let c = 2.0 * SQRT_2;
-        let g0 = l[0] / (c * sum);
-        let g1 = (l[1] / c - g0) / sum;
-        let g2 = (l[2] / c - 2.0 * g1) / sum;
-        let g3 = (l[3] / c - 3.0 * g2) / sum;
-        Analytic {
-            t,
-            v,
-            z,
-            b,
-            a,
-            g: [g0, g1, g2, g3],
-        }
-    }
-
-    fn free(&self) -> f64 {
-        self.v - self.z[0] * self.b[0] - self.z[1] * self.b[1]
-    }
-
-    /// Sum of a over pairs.
-    fn pairs(&self, x: [f64; 2], y: [f64; 2]) -> f64 {
-        let of = |i: usize| x[i] * (self.a[i][0] * y[0] + self.a[i][1] * y[1]);
-        of(0) + of(1)
-    }
-
-    fn matrix(&self) -> [[f64; 2]; 2] {
-        let (z, b, g, free) = (self.z, self.b, self.g, self.free());
-        let d = self.pairs(z, z);
-        let d_by = [self.pairs([1.0, 0.0], z), self.pairs([0.0, 1.0], z)].map(|x| 2.0 * x);
-        [0, 1].map(|i| {
-            [0, 1].map(|j| {
-                let repulsion = (b[i] + b[j]) / free + (z[0] + z[1]) * b[i] * b[j] / free.powi(2);
-                let attraction = 2.0 * self.a[i][j] * g[0]
-                    + (d_by[i] * b[j] + d_by[j] * b[i]) * g[1]
-                    + d * b[i] * b[j] * g[2];
-                let one = if i == j { 1.0 } else { 0.0 };
-                (repulsion - attraction / self.t) * (z[i] * z[j]).sqrt() + one
-            })
-        })
-    }
-
-    /// The third derivative of the whole Helmholtz energy over T along the mole numbers' change w.
-    fn third(&self, w: [f64; 2]) -> f64 {
-        let (z, g, free) = (self.z, self.g, self.free());
-        let beta = w[0] * self.b[0] + w[1] * self.b[1];
-        let repulsion = (z[0] + z[1]) * 2.0 * (beta / free).powi(3)
-            + 3.0 * (w[0] + w[1]) * (beta / free).powi(2);
-        let attraction = self.pairs(z, z) * g[3] * beta.powi(3)
-            + 3.0 * (2.0 * self.pairs(w, z)) * g[2] * beta.powi(2)
-            + 3.0 * (2.0 * self.pairs(w, w)) * g[1] * beta;
-        // w^3/z^2, in an order that no trace overflows
-        let ideal = [0, 1].map(|i| (w[i] / z[i]) * (w[i] / z[i] * w[i]));
-        repulsion - attraction / self.t - ideal[0] - ideal[1]
-    }
-
-    /// l and c2, the vector by its angle; its first entry has the sign of m12.
-    fn conditions(&self) -> [f64; 2] {
-        let [[m11, m12], [_, m22]] = self.matrix();
-        let (sin, cos) = (0.5 * (2.0 * m12).atan2(m11 - m22)).sin_cos();
-        let sign = if (-sin < 0.0) == (m12 < 0.0) {
-            1.0
-        } else {
-            -1.0
-        };
-        let u = [-sin * sign, cos * sign];
-        let l = u[0] * (m11 * u[0] + m12 * u[1]) + u[1] * (m12 * u[0] + m22 * u[1]);
-        let w = [self.z[0].sqrt() * u[0], self.z[1].sqrt() * u[1]];
-        [l, self.third(w)]
-    }
-}
-
 fn matrix_of(eos: &PengRobinson, t: f64, rho: f64, x: &[f64]) -> [[f64; 2]; 2] {
     let x: Vec<Jet> = x.iter().map(|&x| Jet::from(x)).collect();
     let sqrt_z: Vec<Jet> = x.iter().map(|x| x.sqrt()).collect();
@@ -380,7 +192,7 @@ fn matrix_and_conditions() {
 #[test]
 fn no_mixed_entry() {
     let mut seen = [0; 2];
-    for case in eval_cases(3, 30_000).filter(|case| case.evaluation == 6) {
+    for case in eval_cases(3, 40_000).filter(|case| case.evaluation == 6) {
         let (t, rho, x) = (case.temperature, case.density, &case.blend.fractions);
         let eos = PengRobinson::new(&case.blend.coefficients, &case.blend.interactions);
         let [[m11, m12], [_, m22]] = matrix_of(&eos, t, rho, x);
@@ -493,19 +305,19 @@ fn order_of_the_data_refusals() {
     pairs[0] = 15;
     let line = run_request(7, 2, &pairs).to_string();
     assert_eq!(line, format!("7 11 {ZEROS} 0"));
-    numbers.refused(12);
+    numbers.refused(7, 12);
     numbers.coefficients[1].acentric_factor = 0.1;
-    numbers.refused(13);
+    numbers.refused(7, 13);
     numbers.interactions[0] = 0.01;
-    numbers.refused(14);
+    numbers.refused(7, 14);
     numbers.fractions[1] = 40.0;
-    numbers.refused(17);
+    numbers.refused(7, 17);
     numbers.fractions = vec![0.6, 0.4];
-    numbers.refused(15);
+    numbers.refused(7, 15);
     numbers.start = 0.0;
-    numbers.refused(15);
+    numbers.refused(7, 15);
     numbers.temperature = 0.0;
-    numbers.refused(16);
+    numbers.refused(7, 16);
     // of one component the maximum density may overflow, not that of the blend
     numbers.coefficients[0] = PROPANE;
     let line = numbers.line(7);
@@ -540,11 +352,11 @@ fn conditions_read() {
     };
     // only +0 means none
     for bad in [-0.0, -1.0, f64::NAN, f64::INFINITY, f64::NEG_INFINITY] {
-        with(bad, 0.0).refused(15);
+        with(bad, 0.0).refused(7, 15);
     }
     for bad in [f64::NAN, f64::INFINITY, f64::NEG_INFINITY] {
-        with(0.0, bad).refused(15);
-        with(400.0, bad).refused(15);
+        with(0.0, bad).refused(7, 15);
+        with(400.0, bad).refused(7, 15);
     }
     // -0 and a negative number are starts; no 21 here
     assert_eq!(with(400.0, -0.0).line(7), format!("7 27 {ZEROS} 1"));
@@ -626,7 +438,7 @@ fn on_the_board() {
 
 #[test]
 fn generated_evaluations() {
-    let cases: Vec<EvalCase> = eval_cases(1, 30_000)
+    let cases: Vec<EvalCase> = eval_cases(1, 40_000)
         .filter(|case| case.evaluation == 6)
         .collect();
     assert_eq!(cases.len(), 5_000);
@@ -679,9 +491,11 @@ fn generated_evaluations() {
         assert_eq!(words(&again.run()), words(&case.run()));
     }
     for n in 0..10 {
-        assert_eq!(eval_fits(6, n), n == 2);
+        for evaluation in 6..=8 {
+            assert_eq!(eval_fits(evaluation, n), n == 2);
+        }
         assert_eq!(eval_fits(5, n), (1..=8).contains(&n));
-        assert!(!eval_fits(0, n) && !eval_fits(7, n));
+        assert!(!eval_fits(0, n) && !eval_fits(9, n));
     }
 }
 
