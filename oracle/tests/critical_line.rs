@@ -838,7 +838,7 @@ fn singular() {
 }
 
 /// A pressure at the end of the range: all that the evaluation yields is finite, the elimination overflows, and no
-/// temperature is left. The densities are at their floors, which alone would be no 27.
+/// temperature is left. A density that is no number becomes its floor, which would be no 27.
 #[test]
 fn no_temperature_after_a_step() {
     for pressure in [f64::MAX, f64::MIN] {
