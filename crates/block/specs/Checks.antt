@@ -10,7 +10,7 @@ use Rattle.eos.specs.declared.types.Component.{Component}
 use Rattle.eos.specs.Indices.{total}
 use Rattle.eos.specs.Cubic.{componentOf}
 use Rattle.block.specs.Lists.{allBelow}
-use Rattle.block.specs.Numbers.{interactionCount, readsFractions, zeroIsNone}
+use Rattle.block.specs.Numbers.{interactionCount, readsFractions, optionalTemperature}
 use Rattle.block.specs.Blend.{at}
 use Rattle.block.specs.declared.types.Conditions.{Conditions}
 
@@ -61,9 +61,10 @@ unfoldable pub sumFits : (kind n : ℕ) → List Float → Bool
 sumFits kind n row = not (readsFractions kind) || nearOne (fractionSum n row)
 
 unfoldable pub temperatureFits : (kind : ℕ) → Float → Bool
-temperatureFits kind t = positive t || (zeroIsNone kind && plusZero t)
+temperatureFits kind t = positive t || (optionalTemperature kind && plusZero t)
 
--- "15 a used temperature not finite and positive (kind 5: or +0), used pressure or start not finite"; kind 7 as kind 5
+-- "15 a used temperature not finite and positive (kind 5: or +0), used pressure or start not finite"; kind 7 as kind 5; "Kind 8's temperature
+-- must be positive; kind 9 reads +0 as 300 and needs a finite pressure"
 unfoldable pub conditionsFit : (kind : ℕ) → Conditions → Bool
 conditionsFit kind c = temperatureFits kind (c .temperature) && (finiteOf (c .pressure) && finiteOf (c .start))
 

@@ -49,21 +49,26 @@ readsFractions kind = not (eqb kind 5 || eqb kind 6)
 unfoldable pub fractionCount : (kind n : ℕ) → ℕ
 fractionCount kind n = cond (readsFractions kind) n 0
 
--- "Kind 5 reads +0 in temperature or start as none"; kind 7 uses "only temperature and start, as kind 5 reads them"
-unfoldable pub zeroIsNone : (kind : ℕ) → Bool
-zeroIsNone kind = eqb kind 5 || eqb kind 7
+-- a temperature of +0 is none: "Kind 5 reads +0 in temperature or start as none"; kind 7 uses "only temperature and start, as kind 5 reads them"; "kind 9 reads
+-- +0 as 300"
+unfoldable pub optionalTemperature : (kind : ℕ) → Bool
+optionalTemperature kind = eqb kind 5 || (eqb kind 7 || eqb kind 9)
+
+-- so is a start of +0: kinds 8 and 9 "read +0 in start as none"
+unfoldable pub optionalStart : (kind : ℕ) → Bool
+optionalStart kind = eqb kind 8 || optionalTemperature kind
 
 -- "Choice: kind 1 ..; kind 4 ..; kinds 5 and 6, the component"
 unfoldable pub usesChoice : (kind : ℕ) → Bool
 usesChoice kind = eqb kind 1 || (eqb kind 4 || not (readsFractions kind))
 
--- kinds 1 and 2 search a density at a pressure
+-- kinds 1 and 2 search a density at a pressure, and kind 9 a critical point
 unfoldable pub usesPressure : (kind : ℕ) → Bool
-usesPressure kind = leb kind 2
+usesPressure kind = leb kind 2 || eqb kind 9
 
 -- kind 1 with choice 2, "start"; "Pressure spinodal from a start"; a start that may be none
 unfoldable pub usesStart : (kind choice : ℕ) → Bool
-usesStart kind choice = cond (eqb kind 1) (eqb choice 2) (eqb kind 3 || zeroIsNone kind)
+usesStart kind choice = cond (eqb kind 1) (eqb choice 2) (eqb kind 3 || optionalStart kind)
 
 -- "Unused conditions .. are ignored"
 unfoldable pub usedChoice : (kind choice : ℕ) → ℕ

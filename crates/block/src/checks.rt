@@ -4,8 +4,8 @@ ghost use Prim.Native.Nat.{_+_, _≤_};
 ghost use lib.ListN.{length};
 ghost use Rattle.buf.specs.Bytes.{f64At};
 ghost use Rattle.block.specs.Checks.{positive as positiveOf, plusZero, parametersFit, componentFits, fractionFits, fractionSum, nearOne, sumFits, temperatureFits, conditionsFit, choices as choicesOf, choiceFits};
+use crate::numbers::optional_temperature;
 use crate::numbers::reads_fractions;
-use crate::numbers::zero_is_none;
 use crate::types::Conditions;
 use eos::Component;
 
@@ -111,7 +111,7 @@ fn temperature_fits(kind: u64, t: f64) -> bool
     if positive(t) {
         return true;
     }
-    if zero_is_none(kind) {
+    if optional_temperature(kind) {
         return is_plus_zero(t);
     }
     false

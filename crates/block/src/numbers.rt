@@ -3,7 +3,7 @@ ghost use mathlib.Core.Path.{_≡_};
 ghost use Prim.Native.Nat.{_+_, _≤_};
 ghost use lib.ListN.{length};
 ghost use Rattle.buf.specs.Bytes.{u64At, f64At};
-ghost use Rattle.block.specs.Numbers.{readsFractions, fractionCount, zeroIsNone, usesChoice, usesStart, usedChoice, usedPressure, usedStart, conditionsOf};
+ghost use Rattle.block.specs.Numbers.{readsFractions, fractionCount, optionalTemperature, optionalStart, usesChoice, usesPressure, usesStart, usedChoice, usedPressure, usedStart, conditionsOf};
 use crate::types::Conditions;
 
 pub fn reads_fractions(kind: u64) -> bool
@@ -24,13 +24,25 @@ pub fn fraction_count(kind: u64, n: usize) -> usize
     0
 }
 
-pub fn zero_is_none(kind: u64) -> bool
-    ensures { λ r. ⌜ r ≡ zeroIsNone kind ⌝ }
+pub fn optional_temperature(kind: u64) -> bool
+    ensures { λ r. ⌜ r ≡ optionalTemperature kind ⌝ }
 {
     if kind == 5 {
         return true;
     }
-    kind == 7
+    if kind == 7 {
+        return true;
+    }
+    kind == 9
+}
+
+fn optional_start(kind: u64) -> bool
+    ensures { λ r. ⌜ r ≡ optionalStart kind ⌝ }
+{
+    if kind == 8 {
+        return true;
+    }
+    optional_temperature(kind)
 }
 
 fn uses_choice(kind: u64) -> bool
@@ -45,6 +57,15 @@ fn uses_choice(kind: u64) -> bool
     !reads_fractions(kind)
 }
 
+fn uses_pressure(kind: u64) -> bool
+    ensures { λ r. ⌜ r ≡ usesPressure kind ⌝ }
+{
+    if 2 < kind {
+        return kind == 9;
+    }
+    true
+}
+
 fn uses_start(kind: u64, choice: u64) -> bool
     ensures { λ r. ⌜ r ≡ usesStart kind choice ⌝ }
 {
@@ -54,7 +75,7 @@ fn uses_start(kind: u64, choice: u64) -> bool
     if kind == 3 {
         return true;
     }
-    zero_is_none(kind)
+    optional_start(kind)
 }
 
 fn choice(kind: u64, block: &[u8], at: usize) -> u64
@@ -71,7 +92,7 @@ fn pressure(kind: u64, block: &[u8], at: usize) -> f64
     requires { ⌜ at + 32 ≤ length (now block) ⌝ }
     ensures { λ r. ⌜ r ≡ usedPressure kind (f64At (now (block .entry)) (at + 16)) ⌝ }
 {
-    if kind <= 2 {
+    if uses_pressure(kind) {
         return buf::get_f64(block, at + 16);
     }
     0.0

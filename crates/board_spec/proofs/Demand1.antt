@@ -170,14 +170,14 @@ module _ (b b′ : Bytes) (same : SamePublic b b′) where
 
 -- ---- every other request runs to an answer
 
-request-tests : {queue kind n size held : ℕ} → SubmitTests queue kind n size held accept → Inside 1 7 kind × CountRight kind n × (size ≡ 640)
+request-tests : {queue kind n size held : ℕ} → SubmitTests queue kind n size held accept → Inside 1 9 kind × CountRight kind n × (size ≡ 640)
 request-tests (SubmitTests.passed q k c s h) = (k, c, s)
 
-ticket-tests : {b : Bytes} {queue kind n : ℕ} {block : Bytes} {ticket : ℕ} → SubmitAnswers b queue kind n block (Ticket ticket) → Inside 1 7 kind × CountRight kind n × (length block ≡ 640)
+ticket-tests : {b : Bytes} {queue kind n : ℕ} {block : Bytes} {ticket : ℕ} → SubmitAnswers b queue kind n block (Ticket ticket) → Inside 1 9 kind × CountRight kind n × (length block ≡ 640)
 ticket-tests (SubmitAnswers.accepted p s) = request-tests s
 
 module _ (b : Bytes) (queue kind n : ℕ) (block : Bytes) (ticket : ℕ) (e : submitBoard b queue kind n block .answer ≡ Ticket ticket) where
-  request : Inside 1 7 kind × CountRight kind n × (length block ≡ 640)
+  request : Inside 1 9 kind × CountRight kind n × (length block ≡ 640)
   request = ticket-tests (subst (λ (a : Answer). SubmitAnswers b queue kind n block a) e (submit-holds b queue kind n block))
 
   accepted-sealed : Sealed kind n block
@@ -185,11 +185,11 @@ module _ (b : Bytes) (queue kind n : ℕ) (block : Bytes) (ticket : ℕ) (e : su
 
   accepted-ends : sealedBytes (outcomeAt (stateAfter (view kind n block) (spanOf kind))) ≡ sealedOf kind n block
   accepted-ends =
-      stepping .finished kind n block (record { kind-fits = inside-true 1 7 kind (request .0); count-fits = count-true kind n (request .1); block-fits = request .2 })
+      stepping .finished kind n block (record { kind-fits = inside-true 1 9 kind (request .0); count-fits = count-true kind n (request .1); block-fits = request .2 })
 
 -- a job that is handed out is a request
 sealed-request : (kind n : ℕ) (block : Bytes) → Request kind n block → Sealed kind n block
-sealed-request kind n block r = statuses kind n block (true-inside 1 7 kind (r .kind-fits)) (count-right kind n (r .count-fits)) (r .block-fits)
+sealed-request kind n block r = statuses kind n block (true-inside 1 9 kind (r .kind-fits)) (count-right kind n (r .count-fits)) (r .block-fits)
 
 request-out : (count : ℕ) (js : List (Held Bytes)) (q : Bytes) → RepQueue count js q → (j : Held Bytes) → undergo js .out ≡ some j → Request (j .kind) (j .n) (j .block)
 unfolding undergo turned
@@ -225,7 +225,7 @@ released run x =
 
 all-spans : Spans
 unfolding spanOf
-all-spans = record { kind-1 = refl; kind-2 = refl; kind-3 = refl; kind-4 = refl; kind-5 = refl; kind-6 = refl; kind-7 = refl }
+all-spans = record { kind-1 = refl; kind-2 = refl; kind-3 = refl; kind-4 = refl; kind-5 = refl; kind-6 = refl; kind-7 = refl; kind-8 = refl; kind-9 = refl }
 
 same-board : (b : Bytes) → SamePublic b b
 same-board b = record { six = refl; turn = refl; queues = λ queue h. record { count = refl; held = refl; turns = refl; kind = refl } }

@@ -13,7 +13,6 @@ use Rattle.schedule.specs.Spans.{spanOf}
 use Rattle.schedule.specs.Schedule.{Call, Submit, Turn, Look, Verdict, accept, refuse, submitVerdict, onward}
 use Rattle.schedule.proofs.Rounds.{onward-low}
 use Rattle.schedule.proofs.Tests.{both}
-use Rattle.stepping.specs.Stepping.{stateFits}
 use Rattle.stepping.specs.States.{Request}
 use Rattle.board_spec.specs.Layout.{quarterLength, turnAt, acceptedAt, heldAt, turnsAt}
 use Rattle.board_spec.specs.Quarter.{firstTicket, slotOf, firstSlot, firstKind, slotFits, quarterFits, submitQuarter, keptQuarter, freedQuarter, DidQuarter, turnQuarter}
@@ -23,7 +22,7 @@ use Rattle.board_spec.specs.Demand1.{Passes6}
 use Rattle.board_spec.specs.Fits.{PassesOn}
 use Rattle.board_spec.proofs.Bytes.{SameSlot, slot-tail}
 use Rattle.board_spec.proofs.Quarters.{slot-low, Added, added, freed}
-use Rattle.board_spec.proofs.Tested.{slots-at, slots-all, UnderWay, Tested, quarter-tested, tested-quarter, board-tested, tested-board}
+use Rattle.board_spec.proofs.Tested.{slots-at, slots-all, state-fits-same, UnderWay, Tested, quarter-tested, tested-quarter, board-tested, tested-board}
 use Rattle.board_spec.proofs.Queue.{turn-idle, turn-out, turn-on}
 use Rattle.board_spec.proofs.Sim.{length-quarter, length-with, quarter-turn, quarter-same, quarter-other, turn-with, submit-accepted}
 use Rattle.board_spec.proofs.Runs.{look-unchanged}
@@ -92,10 +91,11 @@ module _ (q : Bytes) (l : length q ≡ quarterLength) (t : Tested q) (kind n : �
   more-running w =
       let z : firstTicket q + 0 ≡ firstTicket q = omega arith in
       let first : SameSlot more q (firstSlot q) = rw z at (old-slot 0 (w .held)) in
+      let kind = first-kind-same more q more-ticket first in
       record {
         held = rw (more-reads .held) (omega arith);
-        below = rw (more-reads .turns, first-kind-same more q more-ticket first) (w .below);
-        state = ap stateFits (more-reads .state) ∙ w .state;
+        below = rw (more-reads .turns, kind) (w .below);
+        state = state-fits-same kind (more-reads .state) (w .state);
       }
 
   submit-tested : Tested more
@@ -144,7 +144,7 @@ module _ (q : Bytes) (l : length q ≡ quarterLength) (t : Tested q) (some : 1 �
             λ h. record {
               held = rw (w .held) some;
               below = rw (w .turns, kind) (omega arith);
-              state = ap stateFits (w .state) ∙ stepped-ready q l t some .1;
+              state = state-fits-same kind (w .state) (stepped-ready q l t some .1);
             };
       }
 

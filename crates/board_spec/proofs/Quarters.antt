@@ -25,7 +25,7 @@ ticket-low : (x : ℕ) → x % 2 ^ 64 < 2 ^ 64
 ticket-low x = omega arith
 
 kind-low : (kind : ℕ) → kindFits kind ≡ true → kind < 2 ^ 64
-kind-low kind e = let h = leb-true kind 7 (right-true (leb 1 kind) (leb kind 7) e) in omega arith
+kind-low kind e = let h = leb-true kind 9 (right-true (leb 1 kind) (leb kind 9) e) in omega arith
 
 count-low : (kind n : ℕ) → countFits kind n ≡ true → n < 2 ^ 64
 count-low kind n e = let h = count-within kind n e in omega arith

@@ -17,7 +17,7 @@ use Rattle.schedule.specs.Spans.{kindFits, countFits, spanOf}
 use Rattle.schedule.specs.Schedule.{Held, turnsOf, Undergone, turned, undergo}
 use Rattle.schedule.proofs.OnTime.{leaves, stays}
 use Rattle.solver_state.specs.declared.types.State.{State}
-use Rattle.stepping.specs.Stepping.{startOf, stepOf, stateFits}
+use Rattle.stepping.specs.Stepping.{startOf, stepOf}
 use Rattle.board_spec.specs.Layout.{acceptedAt, heldAt, turnsAt, kindAt, countAt}
 use Rattle.stepping.specs.States.{Request, stateAfter, outcomeAt}
 use Rattle.stepping.specs.Storable.{Storable}
@@ -27,7 +27,7 @@ use Rattle.board_spec.specs.Board.{Turned}
 use Rattle.board_spec.specs.Run.{Bytes, recordOf, turnReply}
 use Rattle.board_spec.specs.Rep.{InSlot, Stands, no-more, stands, Waiting, nobody, waits, Running, idle, runs, RepQueue}
 use Rattle.board_spec.proofs.Bytes.{SameSlot, slot-tail}
-use Rattle.board_spec.proofs.Tested.{UnderWay, tested-quarter}
+use Rattle.board_spec.proofs.Tested.{state-fits-same, UnderWay, tested-quarter}
 use Rattle.board_spec.proofs.Quarters.{slot-low, Added, added, kept, freed}
 use Rattle.schedule.proofs.Tests.{both, span-within}
 
@@ -166,7 +166,7 @@ first-under-way c j js q r h =
     record {
       held = rw (r .held) (omega arith);
       below = rw (turns-first c j js q r, first-in c j js q r .kind) (runs-below (r .running));
-      state = ap stateFits (runs-state (r .running) h) ∙ stepping .fits (j .kind) (j .n) (j .block) (first-in c j js q r .request) (j .turns);
+      state = state-fits-same (first-in c j js q r .kind) (runs-state (r .running) h) (stepping .fits (j .kind) (j .n) (j .block) (first-in c j js q r .request) (j .turns));
     }
 
 running-tested : (c : ℕ) (js : List (Held Bytes)) (q : Bytes) → RepQueue c js q → 1 ≤ u64At q turnsAt → UnderWay q

@@ -96,13 +96,13 @@ module _ (q : Bytes) (l : length q ≡ quarterLength) (t : Tested q) (some : 1 �
         block-fits = length-part q (blockAt (firstSlot q)) 640 (omega arith);
       }
 
-  -- a state of the first job that can be stored and is in range, and its step
+  -- a state of the first job that can be stored and is in its kind's range, and its step
   abbrev Ready : State → Type 0
-  Ready s = Storable s × (stateFits s ≡ true)
+  Ready s = Storable s × (stateFits (firstKind q) s ≡ true)
 
   step-ready : (s : State) → Ready s → Ready (stepOf (firstJob q) s)
   unfolding firstJob
-  step-ready s (h, f) = (stored-kept _ _ _ s h f, fits-kept _ s f)
+  step-ready s (h, f) = (stored-kept _ _ _ s h f, fits-kept _ _ _ s f)
 
   start-ready : Ready (startOf (firstJob q))
   unfolding firstJob stateAfter

@@ -9,6 +9,7 @@ use borrow.Author.Tests.{le-leb, leb-true, lt-ltb, ltb-true, eq-eqb, ne-eqb, eqb
 use Rattle.buf.specs.Bytes.{u64At}
 use Rattle.schedule.specs.Spans.{spanOf}
 use Rattle.schedule.proofs.Tests.{both, left-true, right-true}
+use Rattle.solver_state.specs.declared.types.State.{State}
 use Rattle.stepping.specs.Stepping.{stateFits}
 use Rattle.board_spec.specs.Layout.{boardLength, turnAt, heldAt, turnsAt}
 use Rattle.board_spec.specs.Quarter.{loadState, firstTicket, slotOf, firstKind, slotFits, slotsFit, runningFits, quarterFits}
@@ -34,11 +35,15 @@ slots-all q t (suc k) f =
 
 -- ---- a quarter
 
+-- the same kind and the same state
+pub state-fits-same : {kind k : ℕ} {s t : State} → kind ≡ k → s ≡ t → stateFits k t ≡ true → stateFits kind s ≡ true
+state-fits-same e f h = rw (e, f) h
+
 -- the first job has had a turn
 pub record UnderWay (q : Bytes) : Type 0 where
   pub held : 1 ≤ u64At q heldAt
   pub below : u64At q turnsAt < spanOf (firstKind q)
-  pub state : stateFits (loadState q) ≡ true
+  pub state : stateFits (firstKind q) (loadState q) ≡ true
 
 pub record Tested (q : Bytes) : Type 0 where
   pub few : u64At q heldAt ≤ 8

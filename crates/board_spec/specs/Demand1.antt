@@ -53,7 +53,7 @@ pub data LookAnswers (b : Bytes) (queue : ℕ) : Answer → Type 0 where
   shown : Passes6 b → LookTests queue (turnsIn b queue) accept → 1 ≤ heldIn b queue
       → LookAnswers b queue (Shown (u64At (quarterOf b queue) evaluationsAt) (f64At (quarterOf b queue) latestAt))
 
--- "Kind, span": 3,101; 6,204; 30; 30; 150; 250; and "Kind 7 .., span 150"
+-- "Kind, span": 3,101; 6,204; 30; 30; 150; 250; and "Kind 7 .., span 150"; "Kind 8 .., kind 9 .., span 200"
 pub record Spans : Type 0 where
   pub kind-1 : spanOf 1 ≡ 3101
   pub kind-2 : spanOf 2 ≡ 6204
@@ -62,6 +62,8 @@ pub record Spans : Type 0 where
   pub kind-5 : spanOf 5 ≡ 150
   pub kind-6 : spanOf 6 ≡ 250
   pub kind-7 : spanOf 7 ≡ 150
+  pub kind-8 : spanOf 8 ≡ 200
+  pub kind-9 : spanOf 9 ≡ 200
 
 -- ---- boards that may differ in their blocks and in what they store of a search, and in nothing that is public
 

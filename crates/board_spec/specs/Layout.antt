@@ -26,7 +26,7 @@ heldAt = 8
 abbrev pub turnsAt : ℕ
 turnsAt = 16
 
--- from here to 112 the running search, tested only where the first job has had a turn: six counters of ranges that `stepping` tells,
+-- from here to 112 the running search, tested only where the first job has had a turn: six counters of ranges that `stepping` tells of its kind,
 abbrev pub countersAt : ℕ
 countersAt = 24
 
@@ -44,11 +44,11 @@ latestAt = 104
 
 -- ---- in the eight slots; a job stands in the slot of its ticket modulo 8, so that no block is ever moved and no further number says where it is
 
--- 1 to 7 where a job is held
+-- 1 to 9 where a job is held
 abbrev pub kindAt : (slot : ℕ) → ℕ
 kindAt slot = 128 + 16 * slot
 
--- 1 to 8 where a job is held, 2 in kind 7
+-- 1 to 8 where a job is held, 2 in kinds 7 to 9
 abbrev pub countAt : (slot : ℕ) → ℕ
 countAt slot = 136 + 16 * slot
 

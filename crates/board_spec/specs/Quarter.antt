@@ -69,7 +69,7 @@ slotsFit q ticket (suc k) = slotFits q (slotOf ticket) && slotsFit q (ticket + 1
 
 -- the running job, where there is one
 unfoldable pub runningFits : List ℕ → Bool
-runningFits q = leb 1 (u64At q heldAt) && (ltb (u64At q turnsAt) (spanOf (firstKind q)) && stateFits (loadState q))
+runningFits q = leb 1 (u64At q heldAt) && (ltb (u64At q turnsAt) (spanOf (firstKind q)) && stateFits (firstKind q) (loadState q))
 
 unfoldable pub quarterFits : List ℕ → Bool
 quarterFits q =

@@ -3,56 +3,52 @@
 use mathlib.Core.Path.{_≡_, refl, ap, _∙_}
 use Prim.Native.Nat.{ℕ}
 use mathlib.Core.List.{List}
-use lib.ListN.{take}
 use lib.Ieee.{Float}
 use Rattle.float.specs.Ops.{_⊕_, _⊖_, f1, f2}
 use Rattle.jet.specs.Coefficients.{Upto, cut, numberOf, sumOf, differenceOf, productOf, quotientOf, recipOf, squareOf, rootOf, logarithmOf}
 use Rattle.jet.specs.Ops.{_⊞_, _⊟_, _⊠_, _⧄_}
-use Rattle.jet.proofs.Prefix.{add-upto, sub-upto, mul-upto, div-upto, sqrt-upto, ln-upto}
+use Rattle.jet.proofs.Prefix.{is, add-upto, sub-upto, mul-upto, div-upto, sqrt-upto, ln-upto}
 use Rattle.jet.proofs.Depends.{sum-first, difference-first, product-first, quotient-first, root-first, logarithm-first}
 use Rattle.eos.specs.Cubic.{sqrt2, akOf, mixTerm, repulsion, logRatio, attraction, contribution}
 
 module _ (w : ℕ) where
-  is : {a b : List Float} → a ≡ b → Upto w a b
-  is e = ap (take w) e
-
   pub ak-law : (t : List Float) (tc kappa a : Float) (one n1 q r d n2 m y s n3 out : List Float)
-      → one ≡ numberOf f1 → n1 ≡ numberOf tc → q ≡ cut w (quotientOf t n1) → r ≡ cut w (rootOf q) → d ≡ differenceOf one r → n2 ≡ numberOf kappa → m ≡ cut w (productOf d n2) → y ≡ sumOf m one → s ≡ cut w (productOf y y) → n3 ≡ numberOf a → out ≡ cut w (productOf s n3)
+      → one ≡ numberOf f1 → n1 ≡ numberOf tc → Upto w q (quotientOf t n1) → Upto w r (rootOf q) → Upto w d (differenceOf one r) → n2 ≡ numberOf kappa → Upto w m (productOf d n2) → Upto w y (sumOf m one) → Upto w s (productOf y y) → n3 ≡ numberOf a → Upto w out (productOf s n3)
       → Upto w out (akOf t tc kappa a)
   unfolding akOf squareOf
   ak-law t tc kappa a one n1 q r d n2 m y s n3 out e1 e2 eq er ed e3 em ey es e4 eo =
-      let Q = div-upto w t t q refl n1 (numberOf tc) (is e2) eq in
+      let Q = div-upto w t t q refl n1 (numberOf tc) (is w e2) eq in
       let R = sqrt-upto w q (t ⧄ numberOf tc) r Q er in
-      let D = sub-upto w one (numberOf f1) d (is e1) r (rootOf (t ⧄ numberOf tc)) R ed in
-      let M = mul-upto w d (numberOf f1 ⊟ rootOf (t ⧄ numberOf tc)) m D n2 (numberOf kappa) (is e3) em in
+      let D = sub-upto w one (numberOf f1) d (is w e1) r (rootOf (t ⧄ numberOf tc)) R ed in
+      let M = mul-upto w d (numberOf f1 ⊟ rootOf (t ⧄ numberOf tc)) m D n2 (numberOf kappa) (is w e3) em in
       let y' = (numberOf f1 ⊟ rootOf (t ⧄ numberOf tc)) ⊠ numberOf kappa ⊞ numberOf f1 in
-      let Y = add-upto w m ((numberOf f1 ⊟ rootOf (t ⧄ numberOf tc)) ⊠ numberOf kappa) y M one (numberOf f1) (is e1) ey in
+      let Y = add-upto w m ((numberOf f1 ⊟ rootOf (t ⧄ numberOf tc)) ⊠ numberOf kappa) y M one (numberOf f1) (is w e1) ey in
       let S = mul-upto w y y' s Y y y' Y es in
-      mul-upto w s (y' ⊠ y') out S n3 (numberOf a) (is e4) eo
+      mul-upto w s (y' ⊠ y') out S n3 (numberOf a) (is w e4) eo
 
   pub mix-term-law : (ai aj xi xj : List Float) (k : Float) (p r x n y out : List Float)
-      → p ≡ cut w (productOf ai aj) → r ≡ cut w (rootOf p) → x ≡ cut w (productOf xi xj) → n ≡ numberOf (f1 ⊖ k) → y ≡ cut w (productOf x n) → out ≡ cut w (productOf r y)
+      → Upto w p (productOf ai aj) → Upto w r (rootOf p) → Upto w x (productOf xi xj) → n ≡ numberOf (f1 ⊖ k) → Upto w y (productOf x n) → Upto w out (productOf r y)
       → Upto w out (mixTerm ai aj xi xj k)
   unfolding mixTerm
   mix-term-law ai aj xi xj k p r x n y out ep er ex en ey eo =
       let P = mul-upto w ai ai p refl aj aj refl ep in
       let R = sqrt-upto w p (ai ⊠ aj) r P er in
       let X = mul-upto w xi xi x refl xj xj refl ex in
-      let Y = mul-upto w x (xi ⊠ xj) y X n (numberOf (f1 ⊖ k)) (is en) ey in
+      let Y = mul-upto w x (xi ⊠ xj) y X n (numberOf (f1 ⊖ k)) (is w en) ey in
       mul-upto w r (rootOf (ai ⊠ aj)) out R y (xi ⊠ xj ⊠ numberOf (f1 ⊖ k)) Y eo
 
-  pub repulsion-law : (v b d q out : List Float) → d ≡ differenceOf v b → q ≡ cut w (quotientOf v d) → out ≡ cut w (logarithmOf q) → Upto w out (repulsion v b)
+  pub repulsion-law : (v b d q out : List Float) → Upto w d (differenceOf v b) → Upto w q (quotientOf v d) → Upto w out (logarithmOf q) → Upto w out (repulsion v b)
   unfolding repulsion
   repulsion-law v b d q out ed eq eo =
-      let Q = div-upto w v v q refl d (v ⊟ b) (is ed) eq in
+      let Q = div-upto w v v q refl d (v ⊟ b) ed eq in
       ln-upto w q (v ⧄ (v ⊟ b)) out Q eo
 
   -- v plus b times a number
-  shifted : (v b : List Float) (x : Float) (n m s : List Float) → n ≡ numberOf x → m ≡ cut w (productOf b n) → s ≡ sumOf v m → Upto w s (v ⊞ b ⊠ numberOf x)
-  shifted v b x n m s en em es = add-upto w v v s refl m (b ⊠ numberOf x) (mul-upto w b b m refl n (numberOf x) (is en) em) es
+  shifted : (v b : List Float) (x : Float) (n m s : List Float) → n ≡ numberOf x → Upto w m (productOf b n) → Upto w s (sumOf v m) → Upto w s (v ⊞ b ⊠ numberOf x)
+  shifted v b x n m s en em es = add-upto w v v s refl m (b ⊠ numberOf x) (mul-upto w b b m refl n (numberOf x) (is w en) em) es
 
   pub log-ratio-law : (v b n m s n' m' s' q out : List Float)
-      → n ≡ numberOf (f1 ⊕ sqrt2) → m ≡ cut w (productOf b n) → s ≡ sumOf v m → n' ≡ numberOf (f1 ⊖ sqrt2) → m' ≡ cut w (productOf b n') → s' ≡ sumOf v m' → q ≡ cut w (quotientOf s s') → out ≡ cut w (logarithmOf q)
+      → n ≡ numberOf (f1 ⊕ sqrt2) → Upto w m (productOf b n) → Upto w s (sumOf v m) → n' ≡ numberOf (f1 ⊖ sqrt2) → Upto w m' (productOf b n') → Upto w s' (sumOf v m') → Upto w q (quotientOf s s') → Upto w out (logarithmOf q)
       → Upto w out (logRatio v b)
   unfolding logRatio
   log-ratio-law v b n m s n' m' s' q out en em es en' em' es' eq eo =
@@ -62,12 +58,12 @@ module _ (w : ℕ) where
       ln-upto w q ((v ⊞ b ⊠ numberOf (f1 ⊕ sqrt2)) ⧄ (v ⊞ b ⊠ numberOf (f1 ⊖ sqrt2))) out Q eo
 
   pub attraction-law : (ak b t v n1 m1 n2 m2 m3 q l out : List Float)
-      → n1 ≡ numberOf sqrt2 → m1 ≡ cut w (productOf b n1) → n2 ≡ numberOf f2 → m2 ≡ cut w (productOf m1 n2) → m3 ≡ cut w (productOf m2 t) → q ≡ cut w (quotientOf ak m3) → Upto w l (logRatio v b) → out ≡ cut w (productOf q l)
+      → n1 ≡ numberOf sqrt2 → Upto w m1 (productOf b n1) → n2 ≡ numberOf f2 → Upto w m2 (productOf m1 n2) → Upto w m3 (productOf m2 t) → Upto w q (quotientOf ak m3) → Upto w l (logRatio v b) → Upto w out (productOf q l)
       → Upto w out (attraction ak b t v)
   unfolding attraction
   attraction-law ak b t v n1 m1 n2 m2 m3 q l out e1 em1 e2 em2 em3 eq el eo =
-      let M1 = mul-upto w b b m1 refl n1 (numberOf sqrt2) (is e1) em1 in
-      let M2 = mul-upto w m1 (b ⊠ numberOf sqrt2) m2 M1 n2 (numberOf f2) (is e2) em2 in
+      let M1 = mul-upto w b b m1 refl n1 (numberOf sqrt2) (is w e1) em1 in
+      let M2 = mul-upto w m1 (b ⊠ numberOf sqrt2) m2 M1 n2 (numberOf f2) (is w e2) em2 in
       let M3 = mul-upto w m2 (b ⊠ numberOf sqrt2 ⊠ numberOf f2) m3 M2 t t refl em3 in
       let Q = div-upto w ak ak q refl m3 (b ⊠ numberOf sqrt2 ⊠ numberOf f2 ⊠ t) M3 eq in
       mul-upto w q (ak ⧄ (b ⊠ numberOf sqrt2 ⊠ numberOf f2 ⊠ t)) out Q l (logRatio v b) el eo
@@ -104,11 +100,11 @@ module _ (w : ℕ) where
       (difference-first w _ _ (repulsion-cong (recipOf d) (recipOf d') b b' Vol B) _ _ (attraction-cong ak ak' b b' t t' (recipOf d) (recipOf d') A B T Vol))
 
   pub contribution-law : (density ak b t n v r a d out : List Float)
-      → n ≡ numberOf f1 → v ≡ cut w (quotientOf n density) → Upto w r (repulsion v b) → Upto w a (attraction ak b t v) → d ≡ differenceOf r a → out ≡ cut w (productOf density d)
+      → n ≡ numberOf f1 → Upto w v (quotientOf n density) → Upto w r (repulsion v b) → Upto w a (attraction ak b t v) → Upto w d (differenceOf r a) → Upto w out (productOf density d)
       → Upto w out (contribution density ak b t)
   unfolding contribution recipOf
   contribution-law density ak b t n v r a d out en ev er ea ed eo =
-      let Vol = div-upto w n (numberOf f1) v (is en) density density refl ev in
+      let Vol = div-upto w n (numberOf f1) v (is w en) density density refl ev in
       let R = er ∙ repulsion-cong v (recipOf density) b b Vol refl in
       let A = ea ∙ attraction-cong ak ak b b t t v (recipOf density) refl refl refl Vol in
       let D = sub-upto w r (repulsion (recipOf density) b) d R a (attraction ak b t (recipOf density)) A ed in

@@ -4,12 +4,11 @@ use mathlib.Core.Path.{_≡_, refl, ap, _∙_}
 use Prim.Native.Nat.{ℕ, zero, suc, _+_, _*_, _≤_, _<_}
 use native.Mathlib.Omega.{arith}
 use mathlib.Core.List.{List}
-use lib.ListN.{take}
 use lib.Ieee.{Float}
 use Rattle.float.specs.Ops.{f0}
 use Rattle.jet.specs.Coefficients.{Upto, cut, numberOf, sumOf, productOf, quotientOf}
 use Rattle.jet.specs.Ops.{_⊞_, _⊠_, _⧄_}
-use Rattle.jet.proofs.Prefix.{add-upto, mul-upto, div-upto}
+use Rattle.jet.proofs.Prefix.{is, add-upto, mul-upto, div-upto}
 use Rattle.jet.proofs.Depends.{sum-first, product-first, quotient-first}
 use Rattle.eos.specs.declared.types.Blend.{Blend}
 use Rattle.eos.specs.declared.types.Mixture.{Mixture}
@@ -37,14 +36,14 @@ abbrev kij : Blend → ℕ → ℕ → Float
 kij b i j = nth (b .«k_ij») (8 * i + j)
 
 pub alone-law : (w : ℕ) (b : Blend) (t v n : List Float) (density x ak none term a nb m : List Float)
-    → density ≡ cut w (quotientOf n v) → x ≡ cut w (quotientOf density density) → Upto w ak (aksOf b t 0) → Upto w term (mixTerm ak ak x x (nth (b .«k_ij») 0)) → none ≡ numberOf f0 → a ≡ sumOf none term → nb ≡ numberOf (nth (b .b) 0) → m ≡ cut w (productOf x nb)
+    → Upto w density (quotientOf n v) → Upto w x (quotientOf density density) → Upto w ak (aksOf b t 0) → Upto w term (mixTerm ak ak x x (nth (b .«k_ij») 0)) → none ≡ numberOf f0 → Upto w a (sumOf none term) → nb ≡ numberOf (nth (b .b) 0) → Upto w m (productOf x nb)
     → Upto w density (jetTotal 1 (partialDensity (λ i. n) v)) × Upto w a (akMixOf b 1 t (partialDensity (λ i. n) v)) × Upto w m (bMixOf b 1 (partialDensity (λ i. n) v))
 unfolding partialDensity molefracs jetTotal foldFrom
 alone-law w b t v n density x ak none term a nb m ed ex eak et ez ea eb em =
     let D = div-upto w n n density refl v v refl ed in
     let X = div-upto w density (n ⧄ v) x D density (n ⧄ v) D ex in
-    let A = add-upto w none (numberOf f0) a (ap (take w) ez) term (mixTerm ak ak x x (kij b 0 0)) et ea ∙ ap (take w) (mix-one (λ i. ak) (λ i. x) (kij b)) in
-    let M = mul-upto w x x m refl nb (numberOf (nth (b .b) 0)) (ap (take w) eb) em ∙ ap (take w) (b-one (λ i. x) (nth (b .b))) in
+    let A = add-upto w none (numberOf f0) a (is w ez) term (mixTerm ak ak x x (kij b 0 0)) et ea ∙ is w (mix-one (λ i. ak) (λ i. x) (kij b)) in
+    let M = mul-upto w x x m refl nb (numberOf (nth (b .b) 0)) (is w eb) em ∙ is w (b-one (λ i. x) (nth (b .b))) in
     let X' : (i : ℕ) → i < 1 → Upto w x (molefracs 1 (partialDensity (λ i. n) v) i) = λ i l. X in (
       D,
       A ∙ akMix-cong w 1 (λ i. ak) (aksOf b t) (λ i. x) (molefracs 1 (partialDensity (λ i. n) v)) (kij b) (only-first (λ i. Upto w ak (aksOf b t i)) eak) X',
@@ -53,11 +52,11 @@ alone-law w b t v n density x ak none term a nb m ed ex eak et ez ea eb em =
 
 module _ (w n : ℕ) (h : 1 ≤ n) (b : Blend) where
   pub many-law : (t v : List Float) (moles ρ x ak : ℕ → List Float) (density a m : List Float)
-      → ((i : ℕ) → i < n → Upto w (ρ i) (moles i ⧄ v)) → density ≡ jetTotal n ρ → ((i : ℕ) → i < n → Upto w (x i) (ρ i ⧄ density)) → ((i : ℕ) → i < n → Upto w (ak i) (aksOf b t i)) → Upto w a (akMix n ak x (kij b)) → Upto w m (bMix n x (nth (b .b)))
+      → ((i : ℕ) → i < n → Upto w (ρ i) (moles i ⧄ v)) → Upto w density (jetTotal n ρ) → ((i : ℕ) → i < n → Upto w (x i) (ρ i ⧄ density)) → ((i : ℕ) → i < n → Upto w (ak i) (aksOf b t i)) → Upto w a (akMix n ak x (kij b)) → Upto w m (bMix n x (nth (b .b)))
       → Upto w density (jetTotal n (partialDensity moles v)) × Upto w a (akMixOf b n t (partialDensity moles v)) × Upto w m (bMixOf b n (partialDensity moles v))
   unfolding partialDensity molefracs
   many-law t v moles ρ x ak density a m er ed ex eak ea em =
-      let D = ap (take w) ed ∙ total-cong w n ρ (partialDensity moles v) h er in
+      let D = ed ∙ total-cong w n ρ (partialDensity moles v) h er in
       let X : (i : ℕ) → i < n → Upto w (x i) (molefracs n (partialDensity moles v) i) = λ i l. ex i l ∙ quotient-first w (ρ i) (moles i ⧄ v) (er i l) density (jetTotal n (partialDensity moles v)) D in (
         D,
         ea ∙ akMix-cong w n ak (aksOf b t) x (molefracs n (partialDensity moles v)) (kij b) eak X,
@@ -77,12 +76,12 @@ module _ (w n : ℕ) (h : 1 ≤ n) (b : Blend) where
       )
 
   pub helmholtz-law : (t v : List Float) (moles : ℕ → List Float) (m : Mixture) (e none s p out : List Float)
-      → Mixes w b n t (partialDensity moles v) m → Upto w e (contribution (m .density .c) (m .a .c) (m .b .c) t) → none ≡ numberOf f0 → s ≡ sumOf none e → p ≡ cut w (productOf s t) → out ≡ cut w (productOf p v)
+      → Mixes w b n t (partialDensity moles v) m → Upto w e (contribution (m .density .c) (m .a .c) (m .b .c) t) → none ≡ numberOf f0 → Upto w s (sumOf none e) → Upto w p (productOf s t) → Upto w out (productOf p v)
       → Upto w out (helmholtz b n t v moles)
   unfolding helmholtz energyDensity
   helmholtz-law t v moles m e none s p out em ee ez es ep eo =
       let E = ee ∙ contribution-cong w (m .density .c) _ (m .a .c) _ (m .b .c) _ t t (em .0) (em .1) (em .2) refl in
-      let S = add-upto w none (numberOf f0) s (ap (take w) ez) e (energyDensity b n t (partialDensity moles v)) E es in
+      let S = add-upto w none (numberOf f0) s (is w ez) e (energyDensity b n t (partialDensity moles v)) E es in
       let P = mul-upto w s _ p S t t refl ep in
       mul-upto w p _ out P v v refl eo
 

@@ -4,9 +4,9 @@ use Prim.Native.Nat.{ℕ, zero, suc, _+_, _-_, _≤_, _<_}
 use native.Mathlib.Omega.{arith}
 use native.Mathlib.Numerals.{add-one}
 use mathlib.Core.List.{List}
-use lib.ListN.{take}
 use lib.Ieee.{Float}
 use Rattle.jet.specs.Coefficients.{Upto}
+use Rattle.jet.proofs.Prefix.{is}
 use Rattle.eos.specs.Indices.{foldFrom}
 
 -- one turn of a loop, and its end
@@ -46,7 +46,7 @@ module _ (w : ℕ) (f : List Float → ℕ → List Float) (keeps : Keeps w f) w
 
   -- a turn of a loop whose new jet is the step's in its first w coefficients
   pub upto-turn : (n i : ℕ) (s t r : List Float) → i < n → Upto w t (f s i) → Upto w (foldFrom f (n - i) i s) r → Upto w (foldFrom f (n - (i + 1)) (i + 1) t) r
-  upto-turn n i s t r h e g = fold-keeps (n - (i + 1)) (i + 1) t (f s i) e ∙ ap (take w) (sym (fold-next f n i s h)) ∙ g
+  upto-turn n i s t r h e g = fold-keeps (n - (i + 1)) (i + 1) t (f s i) e ∙ is w (sym (fold-next f n i s h)) ∙ g
 
   pub upto-end : (n i : ℕ) (s r : List Float) → n ≤ i → Upto w (foldFrom f (n - i) i s) r → Upto w s r
-  upto-end n i s r h g = ap (take w) (sym (fold-end f n i s h)) ∙ g
+  upto-end n i s r h g = is w (sym (fold-end f n i s h)) ∙ g

@@ -1,4 +1,4 @@
-// cubic.rs: the parameters of a blend and its maximum density. helmholtz_4.rt and helmholtz_12.rt have its energy on jets.
+// cubic.rs: the parameters of a blend and its maximum density. helmholtz_4.rt and helmholtz_gradient.rt have its energy on jets.
 ghost use mathlib.Core.Path.{_≡_};
 ghost use Prim.Native.Nat.{_≤_, _<_};
 ghost use Rattle.float.specs.Ops.{_⊗_};

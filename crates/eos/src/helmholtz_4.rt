@@ -1,5 +1,5 @@
 // The residual Helmholtz energy of cubic.rs, residual.rs and `StateHD` on jets, at positions 0 to 3: all that the evaluations along the
-// density need. helmholtz_12.rt has the same functions in the same order for positions 0 to 11; both equal the definitions
+// density need. helmholtz_gradient.rt has the same functions in the same order for derivatives by e1, e2 and e3 too; both equal the definitions
 // of specs/Cubic.antt and specs/Helmholtz.antt. Here the mole numbers are the blend's fractions, plain numbers, which `densities` alone is for.
 ghost use mathlib.Core.Path.{_≡_};
 ghost use Prim.Native.Nat.{ℕ, _+_, _*_, _≤_, _<_};

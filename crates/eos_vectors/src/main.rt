@@ -1,10 +1,12 @@
 // Reads evaluations and prints what each yields as words of 16 hexadecimal digits, a line each. An evaluation is its byte,
 // the number of components N in a byte, and floats as bit patterns, little-endian: critical temperature, critical pressure
-// and acentric factor of each component; the interactions k_ij by rows, i below j; the fractions; temperature; density.
-// README.md has the evaluation bytes.
+// and acentric factor of each component; the interactions k_ij by rows, i below j; the fractions; temperature; density. In 7 and 8 two partial densities stand for the fractions and
+// the pressure for the density. README.md has the evaluation bytes.
 use eos::Blend;
+use evaluations::Condition;
 use evaluations::Criticality;
 use evaluations::Pressure;
+use evaluations::PressureCriticality;
 use evaluations::Stability;
 use libc::STDOUT_FILENO;
 ghost use Prim.Native.Nat.{_+_, _≤_, _<_};
@@ -162,10 +164,28 @@ fn print_pressure(p: Pressure) {
 fn print_criticality(c: Criticality) {
     print_float(c.l);
     print_next(c.c2);
-    print_next(c.dl_dt);
-    print_next(c.dl_drho);
-    print_next(c.dc2_dt);
-    print_next(c.dc2_drho);
+    print_next(c.dl_d0);
+    print_next(c.dl_d1);
+    print_next(c.dc2_d0);
+    print_next(c.dc2_d1);
+}
+
+fn print_derivatives(c: Condition) {
+    print_next(c.d0);
+    print_next(c.d1);
+    print_next(c.d2);
+}
+
+fn print_pressure_criticality(c: PressureCriticality) {
+    let l = c.l;
+    let c2 = c.c2;
+    let p = c.p;
+    print_float(l.value);
+    print_next(c2.value);
+    print_next(p.value);
+    print_derivatives(l);
+    print_derivatives(c2);
+    print_derivatives(p);
 }
 
 fn print_stability(s: Stability) {
@@ -183,6 +203,16 @@ fn first_component(blend: Blend) -> Blend {
     eos::blend(1, &tc, &a, &b, &kappa, &k_ij, &[1.0; 8])
 }
 
+// The conditions at the partial densities that stand for the fractions.
+fn print_binary(evaluation: u8, blend: Blend, t: f64, p: f64) {
+    let rho = blend.x;
+    if evaluation == 7 {
+        print_criticality(evaluations::criticality_conditions_t(blend, t, rho[0], rho[1]));
+        return;
+    }
+    print_pressure_criticality(evaluations::criticality_conditions_p(blend, p, t, rho[0], rho[1]));
+}
+
 fn print_evaluation(evaluation: u8, blend: Blend, t: f64, rho: f64) {
     match evaluation {
         1 => print_pressure(evaluations::p_dpdrho(blend, t, rho)),
@@ -190,7 +220,8 @@ fn print_evaluation(evaluation: u8, blend: Blend, t: f64, rho: f64) {
         3 => print_float(evaluations::chemical_potential(blend, t, rho)),
         4 => print_criticality(evaluations::criticality_conditions(first_component(blend), t, rho)),
         5 => print_stability(evaluations::stability_condition(first_component(blend), t, rho)),
-        _ => print_criticality(evaluations::criticality_conditions(blend, t, rho)),
+        6 => print_criticality(evaluations::criticality_conditions(blend, t, rho)),
+        _ => print_binary(evaluation, blend, t, rho),
     }
 }
 
@@ -222,10 +253,10 @@ fn run_one() -> bool {
     }
     let evaluation = head[0];
     let n = wide(head[1]) as usize;
-    if evaluation < 1 || 6 < evaluation || n < 1 || 8 < n {
+    if evaluation < 1 || 8 < evaluation || n < 1 || 8 < n {
         return false;
     }
-    if evaluation == 6 && n != 2 {
+    if 5 < evaluation && n != 2 {
         return false;
     }
     run_with(evaluation, n)

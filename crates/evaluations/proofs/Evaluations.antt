@@ -2,12 +2,14 @@
 use mathlib.Core.Path.{_≡_, refl, ap, _∙_}
 use Prim.Native.Nat.{ℕ, _≤_, _<_}
 use native.Mathlib.Omega.{arith}
+use mathlib.Core.Bool.{true}
 use mathlib.Core.List.{List}
-use lib.ListN.{take}
 use lib.Ieee.{Float, ofInt, ofBits}
 use Rattle.float.specs.Ops.{_⊕_, _⊖_, _⊗_, _⊘_, f0, f1}
 use Rattle.float.specs.Ln.{lnOf}
 use Rattle.jet.specs.Coefficients.{at, Upto, numberOf, markedOf, factorial, factorialOf}
+use Rattle.jet.specs.Positions.{firstOrder}
+use Rattle.jet.proofs.Prefix.{is, head-same}
 use Rattle.jet.proofs.Depends.{taken}
 use Rattle.eos.specs.declared.types.Blend.{Blend}
 use Rattle.evaluations.specs.declared.types.Pressure.{Pressure}
@@ -22,24 +24,27 @@ pub along-law : (b : Blend) (t v : Float) (n : ℕ) (T U : List Float) (moles : 
 unfolding alongVolume
 along-law b t v n T U moles out h en et ev em eo =
     eo
-    ∙ helmholtz-cong 4 n h b T U moles (λ i. numberOf (nth (b .x) i)) (λ i l. ap (take 4) (em i l))
-    ∙ ap (λ (a : List Float). take 4 (helmholtz b n a U (λ i. numberOf (nth (b .x) i)))) et
-    ∙ ap (λ (a : List Float). take 4 (helmholtz b n (numberOf t) a (λ i. numberOf (nth (b .x) i)))) ev
-    ∙ ap (λ (k : ℕ). take 4 (helmholtz b k (numberOf t) (markedOf 1 v) (λ i. numberOf (nth (b .x) i)))) en
+    ∙ helmholtz-cong 4 n h b T U moles (λ i. numberOf (nth (b .x) i)) (λ i l. is 4 (em i l))
+    ∙ is 4 (ap (λ (a : List Float). (helmholtz b n a U (λ i. numberOf (nth (b .x) i)))) et)
+    ∙ is 4 (ap (λ (a : List Float). (helmholtz b n (numberOf t) a (λ i. numberOf (nth (b .x) i)))) ev)
+    ∙ is 4 (ap (λ (k : ℕ). (helmholtz b k (numberOf t) (markedOf 1 v) (λ i. numberOf (nth (b .x) i)))) en)
 
-derived-of : (k : ℕ) (a b : List Float) → k < 4 → Upto 4 a b → derived k a ≡ derived k b
+derived-of : (k : ℕ) (a b : List Float) → k < 4 → firstOrder k ≡ true → Upto 4 a b → derived k a ≡ derived k b
 unfolding derived
-derived-of k a b h e = ap (λ (x : Float). factorialOf k ⊗ x) (taken 4 k a b e h)
+derived-of k a b h f e = ap (λ (x : Float). factorialOf k ⊗ x) (taken 4 k a b e h f)
 
 module _ (b : Blend) (t ρ : Float) (a : List Float) (e : Upto 4 a (alongVolume b t (f1 ⊘ ρ))) where
   first : derived 1 a ≡ derived 1 (alongVolume b t (f1 ⊘ ρ))
-  first = derived-of 1 a (alongVolume b t (f1 ⊘ ρ)) (omega arith) e
+  unfolding firstOrder
+  first = derived-of 1 a (alongVolume b t (f1 ⊘ ρ)) (omega arith) refl e
 
   second : derived 2 a ≡ derived 2 (alongVolume b t (f1 ⊘ ρ))
-  second = derived-of 2 a (alongVolume b t (f1 ⊘ ρ)) (omega arith) e
+  unfolding firstOrder
+  second = derived-of 2 a (alongVolume b t (f1 ⊘ ρ)) (omega arith) refl e
 
   third : derived 3 a ≡ derived 3 (alongVolume b t (f1 ⊘ ρ))
-  third = derived-of 3 a (alongVolume b t (f1 ⊘ ρ)) (omega arith) e
+  unfolding firstOrder
+  third = derived-of 3 a (alongVolume b t (f1 ⊘ ρ)) (omega arith) refl e
 
   pressure-of : pressureFrom t ρ a ≡ pressureFrom t ρ (alongVolume b t (f1 ⊘ ρ))
   unfolding pressureFrom
@@ -68,4 +73,4 @@ module _ (b : Blend) (t ρ : Float) (a : List Float) (e : Upto 4 a (alongVolume 
 
   pub potential-law : (l : Float) → l ≡ lnOf ρ → at a 0 ⊖ f1 ⊗ at a 1 ⊗ (f1 ⊘ ρ) ⊕ t ⊗ l ≡ chemicalPotential b t ρ
   unfolding chemicalPotential
-  potential-law l el = rw (el, one-times, first, taken 4 0 a (alongVolume b t (f1 ⊘ ρ)) e (omega arith))
+  potential-law l el = rw (el, one-times, first, head-same 4 a (alongVolume b t (f1 ⊘ ρ)) (omega arith) e)

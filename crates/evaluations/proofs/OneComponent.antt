@@ -15,6 +15,6 @@ first-alone : (b : Blend) (t v : List Float) (moles : ℕ → List Float) → he
 unfolding helmholtz energyDensity partialDensity molefracs akMix mixRow bMix jetTotal foldFrom
 first-alone b t v moles = refl
 
-pub of-one : (b : Blend) (t v : List Float) → OfOne b t v
+pub of-one : (b : Blend) (t v : List Float) (z : ℕ → List Float) → OfOne b t v z
 unfolding eigenvalue matrix dmuDn secondAlong along energyOverT thirdDerivative eigenvector movedAlong idealGas jetTotal foldFrom
-of-one b t v = record { value = rw (first-alone b t v); third = rw (first-alone b t v) }
+of-one b t v z = record { value = rw (first-alone b t v); third = rw (first-alone b t v) }

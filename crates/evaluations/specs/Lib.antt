@@ -1,4 +1,5 @@
 pub mod Residual
 pub mod Critical
+pub mod CriticalBinary
 pub mod Entries
 pub mod OneComponent

@@ -1,28 +1,39 @@
 // `criticality_conditions` and `stability_condition` of state/critical_point.rs, of a blend of two components, or else of the first
-// component of a blend. They read positions 0, 4 and 8 of derivatives by e0, the highest of which comes from position 8 + 3, so that twelve positions are enough.
+// component of a blend, with derivatives by temperature and density.
 ghost use mathlib.Core.Path.{_≡_};
 ghost use Rattle.jet.specs.Coefficients.{Upto, markedOf, recipOf};
-ghost use Rattle.evaluations.specs.Critical.{eigenvalue, thirdDerivative, criticalCount, criticalityConditions, stabilityCondition};
+ghost use Rattle.evaluations.specs.Critical.{eigenvalue, thirdDerivative, criticalCount, fractionsOf, criticalityConditions, stabilityCondition};
 use crate::one_component;
 use crate::two_components;
 use crate::types::ConditionJets;
 use crate::types::Criticality;
 use crate::types::Stability;
 use eos::Blend;
+use eos::helmholtz_gradient::ak_roots;
 use jet::Jet;
 
 // The molar volume, with its density marked.
 fn volume(density: f64) -> Jet
     ensures { λ r. ⌜ Upto 12 (r .c) (recipOf (markedOf 8 density)) ⌝ }
 {
-    jet_twelve::div_12(jet::number(1.0), jet::marked(8, density))
+    jet_gradient::div(12, jet::number(1.0), jet::marked(8, density))
 }
 
 fn conditions(blend: Blend, t: Jet, v: Jet) -> ConditionJets
-    ensures { λ r. ⌜ Upto 12 (r .l .c) (eigenvalue blend (criticalCount blend) (t .c) (v .c)) × Upto 12 (r .c2 .c) (thirdDerivative blend (criticalCount blend) (t .c) (v .c)) ⌝ }
+    ensures { λ r. ⌜ Upto 12 (r .l .c) (eigenvalue blend (criticalCount blend) (t .c) (v .c) (fractionsOf blend)) × Upto 12 (r .c2 .c) (thirdDerivative blend (criticalCount blend) (t .c) (v .c) (fractionsOf blend)) ⌝ }
 {
     if blend.n == 2 {
-        return two_components::conditions(blend, t, v);
+        let x = blend.x;
+        let root = ak_roots(12, blend, t);
+        return two_components::conditions(
+            12,
+            blend,
+            root,
+            t,
+            v,
+            jet::number(x[0]),
+            jet::number(x[1]),
+        );
     }
     one_component::conditions(blend, t, v)
 }
@@ -40,10 +51,10 @@ pub fn criticality_conditions(blend: Blend, temperature: f64, density: f64) -> C
     Criticality {
         l: f[0],
         c2: g[0],
-        dl_dt: f[4],
-        dl_drho: f[8],
-        dc2_dt: g[4],
-        dc2_drho: g[8],
+        dl_d0: f[4],
+        dl_d1: f[8],
+        dc2_d0: g[4],
+        dc2_d1: g[8],
     }
 }
 

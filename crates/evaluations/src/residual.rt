@@ -16,19 +16,19 @@ fn along_volume(blend: Blend, t: f64, v: f64) -> Jet
     helmholtz(n, blend, jet::number(t), jet::marked(1, v))
 }
 
-fn pressure_from(t: f64, rho: f64, a: &[f64; 16]) -> f64
+fn pressure_from(t: f64, rho: f64, a: &[f64; 32]) -> f64
     ensures { λ r. ⌜ r ≡ pressureFrom t rho (now (a .entry)) ⌝ }
 {
     -(1.0 * a[1]) + t * rho
 }
 
-fn slope_from(t: f64, v: f64, a: &[f64; 16]) -> f64
+fn slope_from(t: f64, v: f64, a: &[f64; 32]) -> f64
     ensures { λ r. ⌜ r ≡ slopeFrom t v (now (a .entry)) ⌝ }
 {
     v * v * (2.0 * a[2]) + t
 }
 
-fn curvature_from(v: f64, a: &[f64; 16]) -> f64
+fn curvature_from(v: f64, a: &[f64; 32]) -> f64
     ensures { λ r. ⌜ r ≡ curvatureFrom v (now (a .entry)) ⌝ }
 {
     -v * v * v * (2.0 * a[2] * 2.0 + v * (6.0 * a[3]))

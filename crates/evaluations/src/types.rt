@@ -8,14 +8,29 @@ pub struct Pressure {
     pub d2p_drho2: f64,
 }
 
-// The two criticality conditions, and their derivatives by temperature and density.
+// The two criticality conditions, and their derivatives by the two unknowns of a search: temperature and density, or two partial densities.
 pub struct Criticality {
     pub l: f64,
     pub c2: f64,
-    pub dl_dt: f64,
-    pub dl_drho: f64,
-    pub dc2_dt: f64,
-    pub dc2_drho: f64,
+    pub dl_d0: f64,
+    pub dl_d1: f64,
+    pub dc2_d0: f64,
+    pub dc2_d1: f64,
+}
+
+// A condition, and its derivatives by three unknowns: the temperature and two partial densities.
+pub struct Condition {
+    pub value: f64,
+    pub d0: f64,
+    pub d1: f64,
+    pub d2: f64,
+}
+
+// The two criticality conditions and that of a set pressure.
+pub struct PressureCriticality {
+    pub l: Condition,
+    pub c2: Condition,
+    pub p: Condition,
 }
 
 // The stability condition, and its derivative by the density.
@@ -28,6 +43,14 @@ pub struct Stability {
 pub struct ConditionJets {
     pub l: Jet,
     pub c2: Jet,
+}
+
+// The density of two components, the molar volume and the fractions, as jets.
+pub struct BinaryState {
+    pub density: Jet,
+    pub v: Jet,
+    pub z0: Jet,
+    pub z1: Jet,
 }
 
 // The entries of a symmetric 2 by 2 matrix of jets.

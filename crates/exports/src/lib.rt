@@ -5,8 +5,9 @@ ghost use Rattle.float.specs.Ln.{lnOf};
 ghost use Rattle.jet.specs.Coefficients.{sumOf, productOf, quotientOf, rootOf, logarithmOf, cut};
 ghost use Rattle.evaluations.specs.Residual.{pDpdrho, pDpdrhoD2pdrho2, chemicalPotential};
 ghost use Rattle.evaluations.specs.Critical.{criticalityConditions, stabilityCondition};
+ghost use Rattle.evaluations.specs.CriticalBinary.{criticalityConditionsT, criticalityConditionsP};
 ghost use Rattle.eos.specs.Cubic.{blendBy};
-ghost use Rattle.exports.specs.Rows.{pressureRow, criticalityRow, stabilityRow};
+ghost use Rattle.exports.specs.Rows.{pressureRow, criticalityRow, pressureCriticalityRow, stabilityRow};
 use jet::Jet;
 
 #[no_mangle]
@@ -24,7 +25,7 @@ pub extern "C" fn float_ln(x: f64) -> f64
 }
 
 #[no_mangle]
-pub extern "C" fn jet_add(a: &[f64; 16], b: &[f64; 16], r: &mut [f64; 16])
+pub extern "C" fn jet_add(a: &[f64; 32], b: &[f64; 32], r: &mut [f64; 32])
     ensures { λ _. ⌜ now (r .exit) ≡ sumOf (now (a .entry)) (now (b .entry)) ⌝ }
 {
     let c = *a;
@@ -37,7 +38,7 @@ pub extern "C" fn jet_add(a: &[f64; 16], b: &[f64; 16], r: &mut [f64; 16])
 }
 
 #[no_mangle]
-pub extern "C" fn jet_mul(a: &[f64; 16], b: &[f64; 16], r: &mut [f64; 16])
+pub extern "C" fn jet_mul(a: &[f64; 32], b: &[f64; 32], r: &mut [f64; 32])
     ensures { λ _. ⌜ now (r .exit) ≡ productOf (now (a .entry)) (now (b .entry)) ⌝ }
 {
     let c = *a;
@@ -50,7 +51,7 @@ pub extern "C" fn jet_mul(a: &[f64; 16], b: &[f64; 16], r: &mut [f64; 16])
 }
 
 #[no_mangle]
-pub extern "C" fn jet_div(a: &[f64; 16], b: &[f64; 16], r: &mut [f64; 16])
+pub extern "C" fn jet_div(a: &[f64; 32], b: &[f64; 32], r: &mut [f64; 32])
     ensures { λ _. ⌜ now (r .exit) ≡ quotientOf (now (a .entry)) (now (b .entry)) ⌝ }
 {
     let c = *a;
@@ -63,7 +64,7 @@ pub extern "C" fn jet_div(a: &[f64; 16], b: &[f64; 16], r: &mut [f64; 16])
 }
 
 #[no_mangle]
-pub extern "C" fn jet_sqrt(a: &[f64; 16], r: &mut [f64; 16])
+pub extern "C" fn jet_sqrt(a: &[f64; 32], r: &mut [f64; 32])
     ensures { λ _. ⌜ now (r .exit) ≡ rootOf (now (a .entry)) ⌝ }
 {
     let c = *a;
@@ -74,7 +75,7 @@ pub extern "C" fn jet_sqrt(a: &[f64; 16], r: &mut [f64; 16])
 }
 
 #[no_mangle]
-pub extern "C" fn jet_ln(a: &[f64; 16], r: &mut [f64; 16])
+pub extern "C" fn jet_ln(a: &[f64; 32], r: &mut [f64; 32])
     ensures { λ _. ⌜ now (r .exit) ≡ logarithmOf (now (a .entry)) ⌝ }
 {
     let c = *a;
@@ -85,7 +86,7 @@ pub extern "C" fn jet_ln(a: &[f64; 16], r: &mut [f64; 16])
 }
 
 #[no_mangle]
-pub extern "C" fn jet_mul_to(n: usize, a: &[f64; 16], b: &[f64; 16], r: &mut [f64; 16])
+pub extern "C" fn jet_mul_to(n: usize, a: &[f64; 32], b: &[f64; 32], r: &mut [f64; 32])
     ensures { λ _. ⌜ now (r .exit) ≡ cut n (productOf (now (a .entry)) (now (b .entry))) ⌝ }
 {
     let c = *a;
@@ -98,7 +99,7 @@ pub extern "C" fn jet_mul_to(n: usize, a: &[f64; 16], b: &[f64; 16], r: &mut [f6
 }
 
 #[no_mangle]
-pub extern "C" fn jet_div_to(n: usize, a: &[f64; 16], b: &[f64; 16], r: &mut [f64; 16])
+pub extern "C" fn jet_div_to(n: usize, a: &[f64; 32], b: &[f64; 32], r: &mut [f64; 32])
     ensures { λ _. ⌜ now (r .exit) ≡ cut n (quotientOf (now (a .entry)) (now (b .entry))) ⌝ }
 {
     let c = *a;
@@ -111,7 +112,7 @@ pub extern "C" fn jet_div_to(n: usize, a: &[f64; 16], b: &[f64; 16], r: &mut [f6
 }
 
 #[no_mangle]
-pub extern "C" fn jet_sqrt_to(n: usize, a: &[f64; 16], r: &mut [f64; 16])
+pub extern "C" fn jet_sqrt_to(n: usize, a: &[f64; 32], r: &mut [f64; 32])
     ensures { λ _. ⌜ now (r .exit) ≡ cut n (rootOf (now (a .entry))) ⌝ }
 {
     let c = *a;
@@ -122,7 +123,7 @@ pub extern "C" fn jet_sqrt_to(n: usize, a: &[f64; 16], r: &mut [f64; 16])
 }
 
 #[no_mangle]
-pub extern "C" fn jet_ln_to(n: usize, a: &[f64; 16], r: &mut [f64; 16])
+pub extern "C" fn jet_ln_to(n: usize, a: &[f64; 32], r: &mut [f64; 32])
     ensures { λ _. ⌜ now (r .exit) ≡ cut n (logarithmOf (now (a .entry))) ⌝ }
 {
     let c = *a;
@@ -203,7 +204,75 @@ pub extern "C" fn eos_criticality_conditions(
     ensures { λ _. ⌜ now (r .exit) ≡ criticalityRow (criticalityConditions (blendBy n (now (tc .entry)) (now (a .entry)) (now (b .entry)) (now (kappa .entry)) (now («k_ij» .entry)) (now (x .entry))) t rho) ⌝ }
 {
     let y = evaluations::criticality_conditions(eos::blend(n, tc, a, b, kappa, k_ij, x), t, rho);
-    *r = [y.l, y.c2, y.dl_dt, y.dl_drho, y.dc2_dt, y.dc2_drho];
+    *r = [y.l, y.c2, y.dl_d0, y.dl_d1, y.dc2_d0, y.dc2_d1];
+}
+
+#[no_mangle]
+pub extern "C" fn eos_criticality_conditions_t(
+    n: usize,
+    tc: &[f64; 8],
+    a: &[f64; 8],
+    b: &[f64; 8],
+    kappa: &[f64; 8],
+    k_ij: &[f64; 64],
+    x: &[f64; 8],
+    t: f64,
+    rho0: f64,
+    rho1: f64,
+    r: &mut [f64; 6],
+)
+    ensures { λ _. ⌜ now (r .exit) ≡ criticalityRow (criticalityConditionsT (blendBy n (now (tc .entry)) (now (a .entry)) (now (b .entry)) (now (kappa .entry)) (now («k_ij» .entry)) (now (x .entry))) t rho0 rho1) ⌝ }
+{
+    let y = evaluations::criticality_conditions_t(
+        eos::blend(n, tc, a, b, kappa, k_ij, x),
+        t,
+        rho0,
+        rho1,
+    );
+    *r = [y.l, y.c2, y.dl_d0, y.dl_d1, y.dc2_d0, y.dc2_d1];
+}
+
+#[no_mangle]
+pub extern "C" fn eos_criticality_conditions_p(
+    n: usize,
+    tc: &[f64; 8],
+    a: &[f64; 8],
+    b: &[f64; 8],
+    kappa: &[f64; 8],
+    k_ij: &[f64; 64],
+    x: &[f64; 8],
+    p: f64,
+    t: f64,
+    rho0: f64,
+    rho1: f64,
+    r: &mut [f64; 12],
+)
+    ensures { λ _. ⌜ now (r .exit) ≡ pressureCriticalityRow (criticalityConditionsP (blendBy n (now (tc .entry)) (now (a .entry)) (now (b .entry)) (now (kappa .entry)) (now («k_ij» .entry)) (now (x .entry))) p t rho0 rho1) ⌝ }
+{
+    let y = evaluations::criticality_conditions_p(
+        eos::blend(n, tc, a, b, kappa, k_ij, x),
+        p,
+        t,
+        rho0,
+        rho1,
+    );
+    let l = y.l;
+    let c2 = y.c2;
+    let q = y.p;
+    *r = [
+        l.value,
+        c2.value,
+        q.value,
+        l.d0,
+        l.d1,
+        l.d2,
+        c2.d0,
+        c2.d1,
+        c2.d2,
+        q.d0,
+        q.d1,
+        q.d2,
+    ];
 }
 
 #[no_mangle]

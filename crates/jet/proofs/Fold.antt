@@ -41,7 +41,7 @@ before-at m t h = rw (pairs-split m) (List·getD-append (before m) (m ∷ []) 0 
 pub pairs-some : (m : ℕ) → 1 ≤ length (pairsOf m)
 pairs-some m = rw (pairs-split m, length-append) (omega arith)
 
--- the positions not above one that is free of e1 and e2 are 0 to it: one computed test
+-- the positions not above one that is free of e1, e2 and e3 are 0 to it: one computed test
 low : ℕ → Bool
 low m = eqb (length (pairsOf m)) (m + 1) && each (λ p. eqb (getD (pairsOf m) p 0) p) (m + 1)
 

@@ -10,3 +10,4 @@ pub mod ByE0
 pub mod Depends
 pub mod Prefix
 pub mod UptoFour
+pub mod WithMark

@@ -16,7 +16,7 @@ use Rattle.jet.proofs.Among.{In, amongs}
 
 -- the constant `ROWS` of src/pairs.rt
 abbrev rows : List ℕ
-rows = 0 ∷ 1 ∷ 3 ∷ 6 ∷ 10 ∷ 12 ∷ 16 ∷ 22 ∷ 30 ∷ 32 ∷ 36 ∷ 42 ∷ 50 ∷ 54 ∷ 62 ∷ 74 ∷ 90 ∷ []
+rows = 0 ∷ 1 ∷ 3 ∷ 6 ∷ 10 ∷ 12 ∷ 16 ∷ 22 ∷ 30 ∷ 32 ∷ 36 ∷ 42 ∷ 50 ∷ 54 ∷ 62 ∷ 74 ∷ 90 ∷ 92 ∷ 96 ∷ 102 ∷ 110 ∷ 114 ∷ 122 ∷ 134 ∷ 150 ∷ 154 ∷ 162 ∷ 174 ∷ 190 ∷ 198 ∷ 214 ∷ 238 ∷ 270 ∷ []
 
 -- where the pairs of each position begin: one computed test
 pub rows-are : (m : ℕ) → m ≤ positions → getD rows m 0 ≡ length (tableOf m)
@@ -38,7 +38,7 @@ grows (suc n) m h =
     (λ (l : m < suc n). let i = grows n m (le-of-suc-le-suc l) in let s = next n in omega arith)
     (eq-or-lt-of-le h)
 
-pub table-end : (m : ℕ) → m ≤ positions → length (tableOf m) ≤ 90
+pub table-end : (m : ℕ) → m ≤ positions → length (tableOf m) ≤ 270
 unfolding tableOf pairsOf among notAbove
 table-end m h = grows positions m h
 
@@ -66,7 +66,7 @@ pair-at (suc n) m t h k =
 
 -- and as `position` reads it
 module _ (m t start : ℕ) (table : List ℕ) (h : m < positions) (k : t < length (pairsOf m)) (e : start ≡ length (tableOf m)) (g : table ≡ tableOf positions) where
-  pub entry-in : start + t < 90
+  pub entry-in : start + t < 270
   entry-in = omega (arith, table-next m, table-end (m + 1) (omega arith))
 
   pub entry : getD table (start + t) 0 ≡ getD (pairsOf m) t 0 + positions * m

@@ -13,7 +13,7 @@ use Rattle.jet.proofs.Build.{padded}
 
 -- four coefficients, and +0 at the other positions
 abbrev pub along : Float → Float → Float → Float → List Float
-along a b c d = a ∷ b ∷ c ∷ d ∷ replicate 12 f0
+along a b c d = a ∷ b ∷ c ∷ d ∷ replicate 28 f0
 
 module _ (x y : List Float) where
   pub product-along : cut 4 (productOf x y) ≡ along (at x 0 ⊗ at y 0) (at x 0 ⊗ at y 1 ⊕ at x 1 ⊗ at y 0) (at x 0 ⊗ at y 2 ⊕ at x 1 ⊗ at y 1 ⊕ at x 2 ⊗ at y 0) (at x 0 ⊗ at y 3 ⊕ at x 1 ⊗ at y 2 ⊕ at x 2 ⊗ at y 1 ⊕ at x 3 ⊗ at y 0)

@@ -10,7 +10,7 @@ use lib.Ieee.{Float, nan, binary64, neg, ofInt}
 use Rattle.float.specs.Ops.{_⊕_, _⊖_, _⊗_, _⊘_, f0, f1, f2}
 use Rattle.float.specs.Root.{root}
 use Rattle.float.specs.Ln.{lnOf}
-use Rattle.jet.specs.Positions.{positions, degree0, pairsOf, before, between, weightOf}
+use Rattle.jet.specs.Positions.{positions, degree0, firstOrder, pairsOf, before, between, weightOf}
 
 -- the coefficient at position m
 abbrev pub at : List Float → ℕ → Float
@@ -32,9 +32,16 @@ build f (suc n) = append f n (build f n)
 unfoldable pub numberOf : Float → List Float
 numberOf x = x ∷ replicate (positions - 1) f0
 
--- a number with 1 at the position of a mark: 1 for e0, 4 for e1, 8 for e2
+-- a number with 1 at the position of a mark: 1 for e0, 4 for e1, 8 for e2, 16 for e3
 unfoldable pub markedOf : ℕ → Float → List Float
 markedOf m x = set (numberOf x) m f1
+
+-- a jet with 1 at the position of a mark: what it is derived by
+abbrev pub withMarkAt : ℕ → List Float → List Float → ℕ → Float
+withMarkAt m a c p = cond (eqb p m) f1 (at a p)
+
+unfoldable pub withMarkOf : ℕ → List Float → List Float
+withMarkOf m a = build (withMarkAt m a) positions
 
 abbrev pub sumAt : List Float → List Float → List Float → ℕ → Float
 sumAt a b c m = at a m ⊕ at b m
@@ -121,6 +128,11 @@ derivativeOf k a = build (derivativeAt k a) positions
 unfoldable pub cut : ℕ → List Float → List Float
 cut n a = take n a ++ replicate (positions - n) f0
 
--- a and b have the same first n coefficients
+-- the coefficients of first order in e1, e2 and e3 at positions below w, from the last: all four of w = 4, all twelve of w = 12, and of w = 20 positions 0 to 11 and 16 to 19
+unfoldable pub upto : ℕ → List Float → List Float
+upto zero a = []
+upto (suc m) a = cond (firstOrder m) (at a m ∷ upto m a) (upto m a)
+
+-- a and b have the same ones
 abbrev pub Upto : ℕ → List Float → List Float → Type 0
-Upto n a b = take n a ≡ take n b
+Upto w a b = upto w a ≡ upto w b

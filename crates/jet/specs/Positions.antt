@@ -6,9 +6,10 @@ use lib.IntN.{pos}
 use lib.Dec.{leb}
 use lib.Ieee.{Float, binary64, ofInt}
 
--- "16 floats, the coefficients of a polynomial in marks e0 (degree up to 3), e1 and e2 (up to 1), at position i + 4j + 8k"
+-- "coefficients of a polynomial in marks e0 (degree up to 3), e1 and e2 (up to 1), at position i + 4j + 8k"; "a jet now has 32 floats: a mark e3 of degree up to 1 adds 16 to
+-- the position"
 abbrev pub positions : ℕ
-positions = 16
+positions = 32
 
 abbrev pub degree0 : ℕ → ℕ
 degree0 m = m % 4
@@ -17,11 +18,14 @@ abbrev pub degree1 : ℕ → ℕ
 degree1 m = m / 4 % 2
 
 abbrev pub degree2 : ℕ → ℕ
-degree2 m = m / 8
+degree2 m = m / 8 % 2
+
+abbrev pub degree3 : ℕ → ℕ
+degree3 m = m / 16
 
 -- "p not above m in any mark"
 unfoldable pub notAbove : ℕ → ℕ → Bool
-notAbove p m = leb (degree0 p) (degree0 m) && leb (degree1 p) (degree1 m) && leb (degree2 p) (degree2 m)
+notAbove p m = leb (degree0 p) (degree0 m) && leb (degree1 p) (degree1 m) && leb (degree2 p) (degree2 m) && leb (degree3 p) (degree3 m)
 
 -- of the k positions from p on, those not above m, ascending
 unfoldable pub among : ℕ → ℕ → ℕ → List ℕ
@@ -39,11 +43,15 @@ unfoldable pub between : ℕ → List ℕ
 between zero = []
 between (suc k) = among k 1 (suc k)
 
--- the pairs p, m of the first n positions m, each as p + 16·m, ascending
+-- the pairs p, m of the first n positions m, each as p + 32·m, ascending
 unfoldable pub tableOf : ℕ → List ℕ
 tableOf zero = []
 tableOf (suc m) = tableOf m ++ map (λ p. p + positions * m) (pairsOf m)
 
+-- no term that two of e1, e2 and e3 share
+unfoldable pub firstOrder : ℕ → Bool
+firstOrder m = leb (degree1 m + degree2 m + degree3 m) 1
+
 -- "w the degree sum", as a float
 unfoldable pub weightOf : ℕ → Float
-weightOf m = ofInt binary64 (pos (degree0 m + degree1 m + degree2 m))
+weightOf m = ofInt binary64 (pos (degree0 m + degree1 m + degree2 m + degree3 m))

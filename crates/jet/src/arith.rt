@@ -4,7 +4,7 @@ ghost use mathlib.Core.Path.{_≡_};
 ghost use Prim.Native.Nat.{_≤_, _<_, min};
 ghost use mathlib.Core.List.{[]};
 ghost use Rattle.jet.specs.Positions.{positions};
-ghost use Rattle.jet.specs.Coefficients.{coefficientOf, numberOf, markedOf, sumOf, differenceOf, negationOf, productOf, quotientOf, recipOf, squareOf, factorialOf, derivativeAt, derivativeOf, cut};
+ghost use Rattle.jet.specs.Coefficients.{coefficientOf, numberOf, markedOf, withMarkOf, sumOf, differenceOf, negationOf, productOf, quotientOf, recipOf, squareOf, factorialOf, derivativeAt, derivativeOf, cut};
 use crate::Jet;
 use crate::four::div_4;
 use crate::four::mul_4;
@@ -15,7 +15,7 @@ use crate::terms::plus;
 pub fn coefficient(a: Jet, m: usize) -> f64
     ensures { λ r. ⌜ r ≡ coefficientOf (a .c) m ⌝ }
 {
-    if m < 16 {
+    if m < 32 {
         return a.c[m];
     }
     0.0 / 0.0
@@ -25,18 +25,29 @@ pub fn coefficient(a: Jet, m: usize) -> f64
 pub fn number(x: f64) -> Jet
     ensures { λ r. ⌜ r .c ≡ numberOf x ⌝ }
 {
-    let mut c = [0.0; 16];
+    let mut c = [0.0; 32];
     c[0] = x;
     Jet { c }
 }
 
-// A number with 1 at the position of a mark: 1 for e0, 4 for e1, 8 for e2.
+// A number with 1 at the position of a mark: 1 for e0, 4 for e1, 8 for e2, 16 for e3.
 pub fn marked(m: usize, x: f64) -> Jet
     ensures { λ r. ⌜ r .c ≡ markedOf m x ⌝ }
 {
-    let mut c = [0.0; 16];
+    let mut c = [0.0; 32];
     c[0] = x;
-    if m < 16 {
+    if m < 32 {
+        c[m] = 1.0;
+    }
+    Jet { c }
+}
+
+// A jet with 1 at the position of a mark.
+pub fn with_mark(m: usize, a: Jet) -> Jet
+    ensures { λ r. ⌜ r .c ≡ withMarkOf m (a .c) ⌝ }
+{
+    let mut c = a.c;
+    if m < 32 {
         c[m] = 1.0;
     }
     Jet { c }
@@ -45,9 +56,9 @@ pub fn marked(m: usize, x: f64) -> Jet
 pub fn add(a: Jet, b: Jet) -> Jet
     ensures { λ r. ⌜ r .c ≡ sumOf (a .c) (b .c) ⌝ }
 {
-    let mut c = [0.0; 16];
+    let mut c = [0.0; 32];
     let mut m: usize = 0;
-    while m < 16 {
+    while m < 32 {
         c[m] = a.c[m] + b.c[m];
         m += 1;
     }
@@ -57,9 +68,9 @@ pub fn add(a: Jet, b: Jet) -> Jet
 pub fn sub(a: Jet, b: Jet) -> Jet
     ensures { λ r. ⌜ r .c ≡ differenceOf (a .c) (b .c) ⌝ }
 {
-    let mut c = [0.0; 16];
+    let mut c = [0.0; 32];
     let mut m: usize = 0;
-    while m < 16 {
+    while m < 32 {
         c[m] = a.c[m] - b.c[m];
         m += 1;
     }
@@ -69,9 +80,9 @@ pub fn sub(a: Jet, b: Jet) -> Jet
 pub fn neg(a: Jet) -> Jet
     ensures { λ r. ⌜ r .c ≡ negationOf (a .c) ⌝ }
 {
-    let mut c = [0.0; 16];
+    let mut c = [0.0; 32];
     let mut m: usize = 0;
-    while m < 16 {
+    while m < 32 {
         c[m] = -a.c[m];
         m += 1;
     }
@@ -82,7 +93,7 @@ pub fn neg(a: Jet) -> Jet
 pub fn at_most(n: usize) -> usize
     ensures { λ r. ⌜ r ≡ min n positions ⌝ }
 {
-    if n < 16 { n } else { 16 }
+    if n < 32 { n } else { 32 }
 }
 
 pub fn mul_to(n: usize, a: Jet, b: Jet) -> Jet
@@ -94,7 +105,7 @@ pub fn mul_to(n: usize, a: Jet, b: Jet) -> Jet
     let end = at_most(n);
     let x = a.c;
     let y = b.c;
-    let mut c = [0.0; 16];
+    let mut c = [0.0; 32];
     let mut m: usize = 0;
     while m < end {
         c[m] = plus(x[0] * y[m], &x, &y, m);
@@ -106,7 +117,7 @@ pub fn mul_to(n: usize, a: Jet, b: Jet) -> Jet
 pub fn mul(a: Jet, b: Jet) -> Jet
     ensures { λ r. ⌜ r .c ≡ productOf (a .c) (b .c) ⌝ }
 {
-    mul_to(16, a, b)
+    mul_to(32, a, b)
 }
 
 pub fn div_to(n: usize, a: Jet, b: Jet) -> Jet
@@ -118,7 +129,7 @@ pub fn div_to(n: usize, a: Jet, b: Jet) -> Jet
     let end = at_most(n);
     let x = a.c;
     let y = b.c;
-    let mut q = [0.0; 16];
+    let mut q = [0.0; 32];
     let mut m: usize = 0;
     while m < end {
         q[m] = minus(x[m], &q, &y, m, 0) / y[0];
@@ -130,7 +141,7 @@ pub fn div_to(n: usize, a: Jet, b: Jet) -> Jet
 pub fn div(a: Jet, b: Jet) -> Jet
     ensures { λ r. ⌜ r .c ≡ quotientOf (a .c) (b .c) ⌝ }
 {
-    div_to(16, a, b)
+    div_to(32, a, b)
 }
 
 // 1 over a.
@@ -162,7 +173,7 @@ fn factorial(k: usize) -> f64
 }
 
 // The coefficient m of the k-th derivative by e0.
-fn derivative_at(k: usize, a: &[f64; 16], m: usize) -> f64
+fn derivative_at(k: usize, a: &[f64; 32], m: usize) -> f64
     requires { ⌜ m < positions ⌝ }
     ensures { λ r. ⌜ r ≡ derivativeAt k (now (a .entry)) [] m ⌝ }
 {
@@ -180,9 +191,9 @@ pub fn derivative(k: usize, a: Jet) -> Jet
     ensures { λ r. ⌜ r .c ≡ derivativeOf k (a .c) ⌝ }
 {
     let x = a.c;
-    let mut c = [0.0; 16];
+    let mut c = [0.0; 32];
     let mut m: usize = 0;
-    while m < 16 {
+    while m < 32 {
         c[m] = derivative_at(k, &x, m);
         m += 1;
     }

@@ -10,9 +10,9 @@ use crate::Jet;
 
 // The jet with these four coefficients, and +0 at the other positions.
 fn along(c0: f64, c1: f64, c2: f64, c3: f64) -> Jet
-    ensures { λ r. ⌜ r .c ≡ c0 ∷ c1 ∷ c2 ∷ c3 ∷ replicate 12 f0 ⌝ }
+    ensures { λ r. ⌜ r .c ≡ c0 ∷ c1 ∷ c2 ∷ c3 ∷ replicate 28 f0 ⌝ }
 {
-    let mut c = [0.0; 16];
+    let mut c = [0.0; 32];
     c[0] = c0;
     c[1] = c1;
     c[2] = c2;

@@ -16,7 +16,7 @@ pub fn sqrt_to(n: usize, a: Jet) -> Jet
     }
     let end = at_most(n);
     let x = a.c;
-    let mut r = [0.0; 16];
+    let mut r = [0.0; 32];
     if end == 0 {
         return Jet { c: r };
     }
@@ -33,7 +33,7 @@ pub fn sqrt_to(n: usize, a: Jet) -> Jet
 pub fn sqrt(a: Jet) -> Jet
     ensures { λ r. ⌜ r .c ≡ rootOf (a .c) ⌝ }
 {
-    sqrt_to(16, a)
+    sqrt_to(32, a)
 }
 
 // wl holds the coefficients of the logarithm, each times its weight.
@@ -45,8 +45,8 @@ pub fn ln_to(n: usize, a: Jet) -> Jet
     }
     let end = at_most(n);
     let x = a.c;
-    let mut l = [0.0; 16];
-    let mut wl = [0.0; 16];
+    let mut l = [0.0; 32];
+    let mut wl = [0.0; 32];
     if end == 0 {
         return Jet { c: l };
     }
@@ -65,5 +65,5 @@ pub fn ln_to(n: usize, a: Jet) -> Jet
 pub fn ln(a: Jet) -> Jet
     ensures { λ r. ⌜ r .c ≡ logarithmOf (a .c) ⌝ }
 {
-    ln_to(16, a)
+    ln_to(32, a)
 }

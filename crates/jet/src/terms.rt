@@ -11,8 +11,8 @@ use crate::pairs::position;
 use crate::pairs::row;
 use crate::pairs::table;
 
-// `plus` and `minus` at the positions free of e1 and e2: those not above m are 0 to m, and no table is read.
-fn plus_e0(x: f64, a: &[f64; 16], b: &[f64; 16], m: usize) -> f64
+// `plus` and `minus` at the positions free of e1, e2 and e3: those not above m are 0 to m, and no table is read.
+fn plus_e0(x: f64, a: &[f64; 32], b: &[f64; 32], m: usize) -> f64
     requires { ⌜ m < 4 ⌝ }
     ensures { λ r. ⌜ r ≡ foldl (λ s p. s ⊕ at (now (a .entry)) p ⊗ at (now (b .entry)) (m - p)) x (drop 1 (pairsOf m)) ⌝ }
 {
@@ -25,7 +25,7 @@ fn plus_e0(x: f64, a: &[f64; 16], b: &[f64; 16], m: usize) -> f64
     s
 }
 
-fn minus_e0(x: f64, a: &[f64; 16], b: &[f64; 16], m: usize, first: usize) -> f64
+fn minus_e0(x: f64, a: &[f64; 32], b: &[f64; 32], m: usize, first: usize) -> f64
     requires { ⌜ m < 4 ⌝ }
     ensures { λ r. ⌜ r ≡ less (λ p. at (now (a .entry)) p ⊗ at (now (b .entry)) (m - p)) x (drop first (before m)) ⌝ }
 {
@@ -39,7 +39,7 @@ fn minus_e0(x: f64, a: &[f64; 16], b: &[f64; 16], m: usize, first: usize) -> f64
 }
 
 // x plus a(p) * b(m - p) for each p not above m but the first, in turn.
-pub fn plus(x: f64, a: &[f64; 16], b: &[f64; 16], m: usize) -> f64
+pub fn plus(x: f64, a: &[f64; 32], b: &[f64; 32], m: usize) -> f64
     requires { ⌜ m < positions ⌝ }
     ensures { λ r. ⌜ r ≡ foldl (λ s p. s ⊕ at (now (a .entry)) p ⊗ at (now (b .entry)) (m - p)) x (drop 1 (pairsOf m)) ⌝ }
 {
@@ -60,7 +60,7 @@ pub fn plus(x: f64, a: &[f64; 16], b: &[f64; 16], m: usize) -> f64
 }
 
 // x less a(p) * b(m - p) for each p not above m and before it, from the one numbered `first` on, in turn.
-pub fn minus(x: f64, a: &[f64; 16], b: &[f64; 16], m: usize, first: usize) -> f64
+pub fn minus(x: f64, a: &[f64; 32], b: &[f64; 32], m: usize, first: usize) -> f64
     requires { ⌜ m < positions ⌝ }
     ensures { λ r. ⌜ r ≡ less (λ p. at (now (a .entry)) p ⊗ at (now (b .entry)) (m - p)) x (drop first (before m)) ⌝ }
 {
@@ -85,5 +85,5 @@ pub fn weight(m: usize) -> f64
     requires { ⌜ m < positions ⌝ }
     ensures { λ r. ⌜ r ≡ weightOf m ⌝ }
 {
-    (m % 4 + m / 4 % 2 + m / 8) as f64
+    (m % 4 + m / 4 % 2 + m / 8 % 2 + m / 16) as f64
 }

@@ -1,5 +1,5 @@
-// Reads operations on jets, 257 bytes each: an operation byte, then the 16 coefficients of the first operand and of the
-// second as bit patterns, little-endian (zeros for an operation on one jet). Prints the result's 16 patterns, a line each.
+// Reads operations on jets, 513 bytes each: an operation byte, then the 32 coefficients of the first operand and of the
+// second as bit patterns, little-endian (zeros for an operation on one jet). Prints the result's 32 patterns, a line each.
 // README.md has the operation bytes.
 use jet::Jet;
 use libc::STDOUT_FILENO;
@@ -12,8 +12,8 @@ fn wide(c: u8) -> u64
 }
 
 // The eight bytes at index at, little-endian.
-fn word(s: &[u8; 257], at: usize) -> u64
-    requires { ⌜ at + 8 ≤ 257 ⌝ }
+fn word(s: &[u8; 513], at: usize) -> u64
+    requires { ⌜ at + 8 ≤ 513 ⌝ }
 {
     let mut w = 0u64;
     let mut i: usize = 8;
@@ -25,12 +25,12 @@ fn word(s: &[u8; 257], at: usize) -> u64
 }
 
 // The jet whose coefficients stand at index at.
-fn operand(s: &[u8; 257], at: usize) -> Jet
-    requires { ⌜ at + 128 ≤ 257 ⌝ }
+fn operand(s: &[u8; 513], at: usize) -> Jet
+    requires { ⌜ at + 256 ≤ 513 ⌝ }
 {
-    let mut c = [0.0; 16];
+    let mut c = [0.0; 32];
     let mut m: usize = 0;
-    while m < 16 {
+    while m < 32 {
         c[m] = float::from_bits(word(s, at + 8 * m));
         m += 1;
     }
@@ -83,7 +83,7 @@ fn result(operation: u64, a: Jet, b: Jet) -> Jet {
 
 fn print_line(a: Jet) {
     let mut m: usize = 0;
-    while m < 16 {
+    while m < 32 {
         if 0 < m {
             io::write_all(STDOUT_FILENO, b" ");
         }
@@ -95,13 +95,13 @@ fn print_line(a: Jet) {
 
 // Reads one operation and prints its line, and answers whether there was a whole one.
 fn run_one() -> bool {
-    let mut s = [0u8; 257];
+    let mut s = [0u8; 513];
     let n = io::read_full(0, &mut s);
-    if n < 257 {
+    if n < 513 {
         return false;
     }
     let a = operand(&s, 1);
-    let b = operand(&s, 129);
+    let b = operand(&s, 257);
     print_line(result(wide(s[0]), a, b));
     true
 }

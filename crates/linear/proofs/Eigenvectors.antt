@@ -4,36 +4,32 @@ use mathlib.Core.Path.{_≡_, refl, ap, _∙_}
 use Prim.Native.Nat.{ℕ, _≤_}
 use mathlib.Core.Bool.{Bool, true, false, cond}
 use mathlib.Core.List.{List}
-use lib.ListN.{take}
 use lib.Dec.{eqb}
 use lib.Ieee.{Float, eq, le}
 use Rattle.float.specs.Ops.{f0, f1, f4}
-use Rattle.jet.specs.Coefficients.{at, Upto, cut, numberOf, sumOf, differenceOf, productOf, quotientOf, rootOf}
+use Rattle.jet.specs.Coefficients.{at, Upto, numberOf, sumOf, differenceOf, productOf, quotientOf, rootOf}
 use Rattle.jet.specs.Ops.{_⊞_, _⊟_, _⊠_, _⧄_}
-use Rattle.jet.proofs.Prefix.{add-upto, sub-upto, mul-upto, div-upto, sqrt-upto}
-use Rattle.jet.proofs.Depends.{taken, sum-first, difference-first, product-first, quotient-first, root-first}
+use Rattle.jet.proofs.Prefix.{is, head-same, add-upto, sub-upto, mul-upto, div-upto, sqrt-upto}
+use Rattle.jet.proofs.Depends.{sum-first, difference-first, product-first, quotient-first, root-first}
 use Rattle.linear.specs.declared.types.Eigenpair.{Eigenpair}
 use Rattle.linear.specs.SmallestEv.{half, smallestOf, lengthOf, unitOf, vectorOf, Smallest}
 
 module _ (w : ℕ) where
-  is : {a b : List Float} → a ≡ b → Upto w a b
-  is e = ap (take w) e
-
   pub smallest-law : (m11 m12 m22 d four f x q s r t u h out : List Float)
-      → d ≡ differenceOf m11 m22 → four ≡ numberOf f4 → f ≡ cut w (productOf four m12) → x ≡ cut w (productOf f m12) → q ≡ cut w (productOf d d) → s ≡ sumOf q x → r ≡ cut w (rootOf s) → t ≡ sumOf m11 m22 → u ≡ differenceOf t r → h ≡ numberOf half → out ≡ cut w (productOf u h)
+      → Upto w d (differenceOf m11 m22) → four ≡ numberOf f4 → Upto w f (productOf four m12) → Upto w x (productOf f m12) → Upto w q (productOf d d) → Upto w s (sumOf q x) → Upto w r (rootOf s) → Upto w t (sumOf m11 m22) → Upto w u (differenceOf t r) → h ≡ numberOf half → Upto w out (productOf u h)
       → Upto w out (smallestOf m11 m12 m22)
   unfolding smallestOf
   smallest-law m11 m12 m22 d four f x q s r t u h out ed e4 ef ex eq es er et eu eh eo =
       let d' = m11 ⊟ m22 in
-      let F = mul-upto w four (numberOf f4) f (is e4) m12 m12 refl ef in
+      let F = mul-upto w four (numberOf f4) f (is w e4) m12 m12 refl ef in
       let X = mul-upto w f (numberOf f4 ⊠ m12) x F m12 m12 refl ex in
-      let Q = mul-upto w d d' q (is ed) d d' (is ed) eq in
+      let Q = mul-upto w d d' q ed d d' ed eq in
       let S = add-upto w q (d' ⊠ d') s Q x (numberOf f4 ⊠ m12 ⊠ m12) X es in
       let R = sqrt-upto w s (d' ⊠ d' ⊞ numberOf f4 ⊠ m12 ⊠ m12) r S er in
-      let U = sub-upto w t (m11 ⊞ m22) u (is et) r (rootOf (d' ⊠ d' ⊞ numberOf f4 ⊠ m12 ⊠ m12)) R eu in
-      mul-upto w u (m11 ⊞ m22 ⊟ rootOf (d' ⊠ d' ⊞ numberOf f4 ⊠ m12 ⊠ m12)) out U h (numberOf half) (is eh) eo
+      let U = sub-upto w t (m11 ⊞ m22) u et r (rootOf (d' ⊠ d' ⊞ numberOf f4 ⊠ m12 ⊠ m12)) R eu in
+      mul-upto w u (m11 ⊞ m22 ⊟ rootOf (d' ⊠ d' ⊞ numberOf f4 ⊠ m12 ⊠ m12)) out U h (numberOf half) (is w eh) eo
 
-  pub length-law : (x y p q s out : List Float) → p ≡ cut w (productOf x x) → q ≡ cut w (productOf y y) → s ≡ sumOf p q → out ≡ cut w (rootOf s) → Upto w out (lengthOf x y)
+  pub length-law : (x y p q s out : List Float) → Upto w p (productOf x x) → Upto w q (productOf y y) → Upto w s (sumOf p q) → Upto w out (rootOf s) → Upto w out (lengthOf x y)
   unfolding lengthOf
   length-law x y p q s out ep eq es eo =
       let P = mul-upto w x x p refl x x refl ep in
@@ -63,7 +59,7 @@ module _ (w : ℕ) where
     pub vector-cong : 1 ≤ w → (i : ℕ) → Upto w (vectorOf m11 m12 m22 i) (vectorOf m11' m12' m22' i)
     unfolding vectorOf
     vector-cong h i =
-        rw (taken w 0 m12 m12' M12 h, taken w 0 m11 m11' M11 h, taken w 0 m22 m22' M22 h) (branch (eq (at m12' 0) f0))
+        rw (head-same w m12 m12' h M12, head-same w m11 m11' h M11, head-same w m22 m22' h M22) (branch (eq (at m12' 0) f0))
       where
         branch : (z : Bool)
             → Upto w (cond z (unitOf (cond (le (at m11' 0) (at m22' 0)) 0 1) i) (cond (eqb i 0) m12 (smallestOf m11 m12 m22 ⊟ m11) ⧄ lengthOf m12 (smallestOf m11 m12 m22 ⊟ m11)))
@@ -82,7 +78,7 @@ module _ (w : ℕ) (m11 m12 m22 : List Float) (e : Eigenpair) (L : Upto w (e .l 
   unfolding vectorOf unitOf
   second-unit-law z g e1 e2 = record { value = L; first = rw (z, g, e1); second = rw (z, g, e2) }
 
-  pub scaled-law : (y size : List Float) → eq (at m12 0) f0 ≡ false → y ≡ differenceOf (e .l .c) m11 → Upto w size (lengthOf m12 y) → e .u1 .c ≡ cut w (quotientOf m12 size) → e .u2 .c ≡ cut w (quotientOf y size) → Smallest w m11 m12 m22 e
+  pub scaled-law : (y size : List Float) → eq (at m12 0) f0 ≡ false → Upto w y (differenceOf (e .l .c) m11) → Upto w size (lengthOf m12 y) → Upto w (e .u1 .c) (quotientOf m12 size) → Upto w (e .u2 .c) (quotientOf y size) → Smallest w m11 m12 m22 e
   unfolding vectorOf
   scaled-law y size z ey es e1 e2 =
       let y' = smallestOf m11 m12 m22 ⊟ m11 in

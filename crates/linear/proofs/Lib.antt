@@ -1,2 +1,3 @@
 pub mod Rows2
+pub mod Rows3
 pub mod Eigenvectors

@@ -7,6 +7,12 @@ pub enum Solved {
     ZeroPivot,
 }
 
+// The unknowns of a 3 by 3 system, or the refusal 23.
+pub enum Solved3 {
+    Delta(f64, f64, f64),
+    ZeroPivot,
+}
+
 // An eigenvalue of a 2 by 2 matrix, and the entries of its vector.
 pub struct Eigenpair {
     pub l: Jet,

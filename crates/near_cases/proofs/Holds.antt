@@ -15,9 +15,9 @@ use Rattle.block.specs.Numbers.{readsFractions}
 use Rattle.block.specs.Checks.{fractionSum, nearOne, sumFits}
 use Rattle.schedule.specs.Spans.{countFits}
 use Rattle.schedule.specs.Schedule.{Call, Submit, submitVerdict, verdict, put, entered, submitted, acts, judged, happens, events, fresh, mapCall}
-use Rattle.board_spec.specs.Run.{Bytes, fieldsOf, publicEvent}
+use Rattle.board_spec.specs.Run.{Bytes, Public, fieldsOf, ticketed, refusal, publicEvent}
 use Rattle.board_spec.proofs.Runs.{public-told}
-use Rattle.near_cases.specs.NearCases.{FloatCases, JetCases, SumCases, submits, answers, BoardCases, SevenCases, NearCases}
+use Rattle.near_cases.specs.NearCases.{FloatCases, JetCases, SumCases, submits, answers, BoardCases, TwoCases, NearCases}
 
 float-cases : FloatCases
 unfolding root floatRootOf sticky isqrt isqrtIn lnOf lnUnits lnAt reducedLn series horner oddRecip above ofBits ofInt neg size round add sub mul div le
@@ -77,15 +77,27 @@ board-cases = record {
   n-9-refused-3 = λ block e. told 1 1 9 block e;
 }
 
-seven-cases : SevenCases
-unfolding events fresh happens judged verdict submitVerdict countFits acts submitted put entered publicEvent sized
-seven-cases = record {
-  n-2-accepted = λ block e. told 1 7 2 block e;
-  n-1-refused-3 = λ block e. told 1 7 1 block e;
-  n-3-refused-3 = λ block e. told 1 7 3 block e;
-  n-8-refused-3 = λ block e. told 1 7 8 block e;
-  kind-8-refused-2 = λ block e. told 1 8 2 block e;
+-- what the schedule answers to one submit of this kind and N
+abbrev first : (kind n : ℕ) → List Public
+first kind n = map publicEvent (events (λ m. m) fresh (sized 1 kind n))
+
+two-cases : (kind : ℕ) → first kind 2 ≡ ticketed 0 ∷ [] → first kind 1 ≡ refusal 3 ∷ [] → first kind 3 ≡ refusal 3 ∷ [] → first kind 8 ≡ refusal 3 ∷ [] → TwoCases kind
+two-cases kind e₂ e₁ e₃ e₈ = record {
+  n-2-accepted = λ block e. told 1 kind 2 block e ∙ e₂;
+  n-1-refused-3 = λ block e. told 1 kind 1 block e ∙ e₁;
+  n-3-refused-3 = λ block e. told 1 kind 3 block e ∙ e₃;
+  n-8-refused-3 = λ block e. told 1 kind 8 block e ∙ e₈;
 }
 
 pub near-cases : NearCases
-near-cases = record { floats = float-cases; jets = jet-cases; sums = sum-cases; board = board-cases; seven = seven-cases }
+unfolding events fresh happens judged verdict submitVerdict countFits acts submitted put entered publicEvent sized
+near-cases = record {
+  floats = float-cases;
+  jets = jet-cases;
+  sums = sum-cases;
+  board = board-cases;
+  seven = two-cases 7 refl refl refl refl;
+  eight = two-cases 8 refl refl refl refl;
+  nine = two-cases 9 refl refl refl refl;
+  kind-10-refused-2 = λ block e. told 1 10 2 block e;
+}

@@ -1,4 +1,4 @@
--- Document 01's near cases that are marked M, and those of document 02's sum of fractions and kind 7, as one list: a record for each layer, and `NearCases` of
+-- Document 01's near cases that are marked M, and those of document 02's sum of fractions and kinds 7 to 9, as one list: a record for each layer, and `NearCases` of
 -- all. They speak of the definitions.
 use Prim.Native.Nat.{ℕ, zero, suc, _-_}
 use mathlib.Core.Path.{_≡_}
@@ -93,13 +93,12 @@ pub record BoardCases : Type 0 where
   pub n-8-accepted : (block : Bytes) → length block ≡ 640 → answers (submits 1 1 8 block) ≡ ticketed 0 ∷ []
   pub n-9-refused-3 : (block : Bytes) → length block ≡ 640 → answers (submits 1 1 9 block) ≡ refusal 3 ∷ []
 
--- "2 passes kind 7; 3 is also given for kind 7 with N other than 2." Whatever the block holds.
-pub record SevenCases : Type 0 where
-  pub n-2-accepted : (block : Bytes) → length block ≡ 640 → answers (submits 1 7 2 block) ≡ ticketed 0 ∷ []
-  pub n-1-refused-3 : (block : Bytes) → length block ≡ 640 → answers (submits 1 7 1 block) ≡ refusal 3 ∷ []
-  pub n-3-refused-3 : (block : Bytes) → length block ≡ 640 → answers (submits 1 7 3 block) ≡ refusal 3 ∷ []
-  pub n-8-refused-3 : (block : Bytes) → length block ≡ 640 → answers (submits 1 7 8 block) ≡ refusal 3 ∷ []
-  pub kind-8-refused-2 : (block : Bytes) → length block ≡ 640 → answers (submits 1 8 2 block) ≡ refusal 2 ∷ []
+-- "2 passes kind 7; 3 is also given for kind 7 with N other than 2"; "2 passes 8 and 9; 3 is given for them unless N is 2". Whatever the block holds.
+pub record TwoCases (kind : ℕ) : Type 0 where
+  pub n-2-accepted : (block : Bytes) → length block ≡ 640 → answers (submits 1 kind 2 block) ≡ ticketed 0 ∷ []
+  pub n-1-refused-3 : (block : Bytes) → length block ≡ 640 → answers (submits 1 kind 1 block) ≡ refusal 3 ∷ []
+  pub n-3-refused-3 : (block : Bytes) → length block ≡ 640 → answers (submits 1 kind 3 block) ≡ refusal 3 ∷ []
+  pub n-8-refused-3 : (block : Bytes) → length block ≡ 640 → answers (submits 1 kind 8 block) ≡ refusal 3 ∷ []
 
 -- A layer above adds its record here.
 pub record NearCases : Type 0 where
@@ -107,4 +106,7 @@ pub record NearCases : Type 0 where
   pub jets : JetCases
   pub sums : SumCases
   pub board : BoardCases
-  pub seven : SevenCases
+  pub seven : TwoCases 7
+  pub eight : TwoCases 8
+  pub nine : TwoCases 9
+  pub kind-10-refused-2 : (block : Bytes) → length block ≡ 640 → answers (submits 1 10 2 block) ≡ refusal 2 ∷ []

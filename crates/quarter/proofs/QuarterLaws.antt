@@ -113,14 +113,14 @@ unfolding runningFits
 running-none q held eh h = rw (← eh, lt-leb _ _ h)
 
 module _ (q : List ℕ) (held turns kind span : ℕ) (eh : held ≡ u64At q heldAt) (h : 1 ≤ held) (et : turns ≡ u64At q turnsAt) (ek : kind ≡ firstKind q) (es : span ≡ spanOf kind) where
-  running-by : runningFits q ≡ (ltb turns span && stateFits (loadState q))
+  running-by : runningFits q ≡ (ltb turns span && stateFits kind (loadState q))
   unfolding runningFits
   running-by = rw (← eh, le-leb _ _ h, ← et, ← ek, ← es)
 
   pub running-late : span ≤ turns → false ≡ runningFits q
   running-late l = sym (running-by ∙ rw (le-ltb _ _ l))
 
-  pub running-state : (c : Counters) (r : Bool) → turns < span → c ≡ loadCounters q → r ≡ countersFit c → r ≡ runningFits q
+  pub running-state : (c : Counters) (r : Bool) → turns < span → c ≡ loadCounters q → r ≡ countersFit kind c → r ≡ runningFits q
   unfolding stateFits loadState
   running-state c r l e er = sym (running-by ∙ rw (lt-ltb _ _ l, ← e, ← er))
 

@@ -55,10 +55,11 @@ fn running_fits(q: &[u8]) -> bool
         return false;
     }
     let turns = buf::get_u64(q, 16);
-    if schedule::span_of(first_kind(q)) <= turns {
+    let kind = first_kind(q);
+    if schedule::span_of(kind) <= turns {
         return false;
     }
-    stepping::counters_fit(load_counters(q))
+    stepping::counters_fit(kind, load_counters(q))
 }
 
 pub fn quarter_fits(q: &[u8]) -> bool

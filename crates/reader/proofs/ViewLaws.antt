@@ -6,7 +6,7 @@ use mathlib.Core.List.{List, [], _∷_}
 use lib.ListN.{length}
 use lib.Dec.{leb, ltb, eqb}
 use native.Mathlib.Omega.{arith}
-use borrow.Author.Tests.{leb-true, lt-ltb, eq-eqb}
+use borrow.Author.Tests.{leb-true, lt-ltb, eq-eqb, eqb-true}
 use types.Run.{OneOf, miss}
 use denote.Enum.Declared.{tagOf}
 use Rattle.schedule.specs.Spans.{kindFits, countFits}
@@ -15,7 +15,7 @@ use Rattle.eos.specs.declared.types.Blend.{Blend}
 use Rattle.block.specs.declared.types.Conditions.{Conditions}
 use Rattle.block.specs.declared.types.Numbers.{Numbers}
 use Rattle.reader.specs.declared.types.Task.{Task}
-use Rattle.reader.specs.declared.types.Task.the-variants.{Refused, DensityIteration, DensityIterationStable, PressureSpinodal, PressureSpinodalBranch, CriticalPoint, Spinodal}
+use Rattle.reader.specs.declared.types.Task.the-variants.{Refused, DensityIteration, DensityIterationStable, PressureSpinodal, PressureSpinodalBranch, CriticalPoint, Spinodal, CriticalPointBinaryT, CriticalPointBinaryP}
 use Rattle.reader.specs.declared.types.Job.{Job}
 use Rattle.block.specs.Pairs.{pairsFit}
 use Rattle.block.specs.Numbers.{numbersOf}
@@ -68,23 +68,48 @@ module _ (P : Job → Type 0) where
 
 -- ---- the task of each kind
 
-module _ (P : Task → Type 0) where
-  cond-keeps : (b : Bool) (x y : Task) → P x → P y → P (cond b x y)
-  cond-keeps true x y p q = p
-  cond-keeps false x y p q = q
+-- a kind that `taskOf` does not tell by its number: 5 and 7, of those that 2 passes
+pub record Other (kind : ℕ) : Type 0 where
+  pub not-1 : eqb kind 1 ≡ false
+  pub not-2 : eqb kind 2 ≡ false
+  pub not-3 : eqb kind 3 ≡ false
+  pub not-4 : eqb kind 4 ≡ false
+  pub not-6 : eqb kind 6 ≡ false
+  pub not-8 : eqb kind 8 ≡ false
+  pub not-9 : eqb kind 9 ≡ false
 
-  pub task-keeps : (kind : ℕ) (c : Conditions) → P (DensityIteration (c .temperature) (c .pressure) (initialOf (c .choice) (c .start))) → P (DensityIterationStable (c .temperature) (c .pressure))
-      → P (PressureSpinodal (c .temperature) (c .start)) → P (PressureSpinodalBranch (c .temperature) (branchOf (c .choice)))
-      → P (CriticalPoint (givenOf (c .temperature)) (givenOf (c .start))) → P (Spinodal (c .temperature)) → P (taskOf kind c)
+-- what holds of each kind with its task
+module _ (P : ℕ → Task → Type 0) (kind : ℕ) (c : Conditions) where
+  either : (k : ℕ) (b : Bool) → eqb kind k ≡ b → (x y : Task) → P k x → (eqb kind k ≡ false → P kind y) → P kind (cond b x y)
+  either k true e x y p q = rw (eqb-true kind k e) p
+  either k false e x y p q = q e
+
+  pub task-by-kind : P 1 (DensityIteration (c .temperature) (c .pressure) (initialOf (c .choice) (c .start))) → P 2 (DensityIterationStable (c .temperature) (c .pressure))
+      → P 3 (PressureSpinodal (c .temperature) (c .start)) → P 4 (PressureSpinodalBranch (c .temperature) (branchOf (c .choice)))
+      → (Other kind → P kind (CriticalPoint (givenOf (c .temperature)) (givenOf (c .start)))) → P 6 (Spinodal (c .temperature)) → P 8 (CriticalPointBinaryT (c .temperature) (givenOf (c .start)))
+      → P 9 (CriticalPointBinaryP (c .pressure) (givenOf (c .temperature)) (givenOf (c .start))) → P kind (taskOf kind c)
   unfolding taskOf
-  task-keeps kind c p₁ p₂ p₃ p₄ p₅ p₆ =
-      cond-keeps (eqb kind 1) _ _ p₁ (cond-keeps (eqb kind 2) _ _ p₂ (cond-keeps (eqb kind 3) _ _ p₃ (cond-keeps (eqb kind 4) _ _ p₄ (cond-keeps (eqb kind 6) _ _ p₆ p₅))))
+  task-by-kind p₁ p₂ p₃ p₄ p₅ p₆ p₈ p₉ =
+      either 1 _ refl _ _ p₁
+      (λ e₁. either 2 _ refl _ _ p₂
+      (λ e₂. either 3 _ refl _ _ p₃
+      (λ e₃. either 4 _ refl _ _ p₄
+      (λ e₄. either 6 _ refl _ _ p₆
+      (λ e₆. either 8 _ refl _ _ p₈
+      (λ e₈. either 9 _ refl _ _ p₉ (λ e₉. p₅ (record { not-1 = e₁; not-2 = e₂; not-3 = e₃; not-4 = e₄; not-6 = e₆; not-8 = e₈; not-9 = e₉ }))))))))
+
+-- what holds of each task
+pub task-keeps : (P : Task → Type 0) (kind : ℕ) (c : Conditions) → P (DensityIteration (c .temperature) (c .pressure) (initialOf (c .choice) (c .start)))
+    → P (DensityIterationStable (c .temperature) (c .pressure)) → P (PressureSpinodal (c .temperature) (c .start)) → P (PressureSpinodalBranch (c .temperature) (branchOf (c .choice)))
+    → P (CriticalPoint (givenOf (c .temperature)) (givenOf (c .start))) → P (Spinodal (c .temperature)) → P (CriticalPointBinaryT (c .temperature) (givenOf (c .start)))
+    → P (CriticalPointBinaryP (c .pressure) (givenOf (c .temperature)) (givenOf (c .start))) → P (taskOf kind c)
+task-keeps P kind c p₁ p₂ p₃ p₄ p₅ p₆ p₈ p₉ = task-by-kind (λ _ task. P task) kind c p₁ p₂ p₃ p₄ (λ _. p₅) p₆ p₈ p₉
 
 -- ---- a job that is refused, and one that is not
 
 task-not-refused : (kind : ℕ) (c : Conditions) → notRefused (taskOf kind c) ≡ true
 unfolding notRefused
-task-not-refused kind c = task-keeps (λ (task : Task). notRefused task ≡ true) kind c refl refl refl refl refl refl
+task-not-refused kind c = task-keeps (λ (task : Task). notRefused task ≡ true) kind c refl refl refl refl refl refl refl refl
 
 -- a refusal says all of the job
 pub view-refused : (kind n : ℕ) (s : List ℕ) (number : ℕ) → Refused number ≡ view kind n s .task → refused number ≡ view kind n s
@@ -94,15 +119,17 @@ view-refused kind n s number =
     (λ e. absurd (false≢true (ap notRefused e ∙ task-not-refused kind (numbersOf kind n s .conditions))))
 
 -- the task that is left where a match has taken the refusal away
-pub not-refused-left : (task : Task) → OneOf (1 ∷ 2 ∷ 3 ∷ 4 ∷ 5 ∷ 6 ∷ []) (tagOf the-type task) → notRefused task ≡ true
+pub not-refused-left : (task : Task) → OneOf (1 ∷ 2 ∷ 3 ∷ 4 ∷ 5 ∷ 6 ∷ 7 ∷ 8 ∷ []) (tagOf the-type task) → notRefused task ≡ true
 unfolding notRefused
-not-refused-left (Refused number) h = absurd (miss (1 ∷ 2 ∷ 3 ∷ 4 ∷ 5 ∷ 6 ∷ []) 0 tt h)
+not-refused-left (Refused number) h = absurd (miss (1 ∷ 2 ∷ 3 ∷ 4 ∷ 5 ∷ 6 ∷ 7 ∷ 8 ∷ []) 0 tt h)
 not-refused-left (DensityIteration t p initial) h = refl
 not-refused-left (DensityIterationStable t p) h = refl
 not-refused-left (PressureSpinodal t start) h = refl
 not-refused-left (PressureSpinodalBranch t branch) h = refl
 not-refused-left (CriticalPoint t density) h = refl
 not-refused-left (Spinodal t) h = refl
+not-refused-left (CriticalPointBinaryT t density) h = refl
+not-refused-left (CriticalPointBinaryP p t density) h = refl
 
 -- a job from its task and the rows of its blend
 pub view-not-refused : (kind n : ℕ) (s : List ℕ) (task : Task) (rows blend : Blend) → task ≡ view kind n s .task → rows ≡ view kind n s .blend → blend ≡ rows
@@ -153,6 +180,8 @@ no-number (PressureSpinodal t start) h = refl
 no-number (PressureSpinodalBranch t branch) h = refl
 no-number (CriticalPoint t density) h = refl
 no-number (Spinodal t) h = refl
+no-number (CriticalPointBinaryT t density) h = refl
+no-number (CriticalPointBinaryP p t density) h = refl
 
 pub ready-no-number : (kind n : ℕ) (d : Numbers) → refusalOf (readyJob kind n d .task) ≡ 0
 ready-no-number kind n d = no-number _ (task-not-refused kind (d .conditions))

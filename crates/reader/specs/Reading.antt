@@ -4,7 +4,7 @@ use Prim.Native.Nat.{ℕ}
 use mathlib.Core.Bool.{Bool, true, false, cond}
 use Rattle.eos.specs.declared.types.Blend.{Blend}
 use Rattle.reader.specs.declared.types.Task.{Task}
-use Rattle.reader.specs.declared.types.Task.the-variants.{Refused, DensityIteration, DensityIterationStable, PressureSpinodal, PressureSpinodalBranch, CriticalPoint, Spinodal}
+use Rattle.reader.specs.declared.types.Task.the-variants.{Refused, DensityIteration, DensityIterationStable, PressureSpinodal, PressureSpinodalBranch, CriticalPoint, Spinodal, CriticalPointBinaryT, CriticalPointBinaryP}
 use Rattle.reader.specs.declared.types.Job.{Job}
 use Rattle.block.specs.Numbers.{readsFractions}
 
@@ -17,6 +17,8 @@ notRefused (PressureSpinodal t start) = true
 notRefused (PressureSpinodalBranch t branch) = true
 notRefused (CriticalPoint t density) = true
 notRefused (Spinodal t) = true
+notRefused (CriticalPointBinaryT t density) = true
+notRefused (CriticalPointBinaryP p t density) = true
 
 -- the number that a task is refused by; 0 where it is not
 unfoldable pub refusalOf : Task → ℕ
@@ -27,6 +29,8 @@ refusalOf (PressureSpinodal t start) = 0
 refusalOf (PressureSpinodalBranch t branch) = 0
 refusalOf (CriticalPoint t density) = 0
 refusalOf (Spinodal t) = 0
+refusalOf (CriticalPointBinaryT t density) = 0
+refusalOf (CriticalPointBinaryP p t density) = 0
 
 -- the job's task, and its blend where it is not refused
 abbrev pub Reads : Job → Task → Blend → Type 0

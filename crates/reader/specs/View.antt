@@ -17,7 +17,7 @@ use Rattle.solver_critical.specs.declared.types.Start.the-variants.{None, Given
 use Rattle.block.specs.declared.types.Conditions.{Conditions}
 use Rattle.block.specs.declared.types.Numbers.{Numbers}
 use Rattle.reader.specs.declared.types.Task.{Task}
-use Rattle.reader.specs.declared.types.Task.the-variants.{Refused, DensityIteration, DensityIterationStable, PressureSpinodal, PressureSpinodalBranch, CriticalPoint, Spinodal}
+use Rattle.reader.specs.declared.types.Task.the-variants.{Refused, DensityIteration, DensityIterationStable, PressureSpinodal, PressureSpinodalBranch, CriticalPoint, Spinodal, CriticalPointBinaryT, CriticalPointBinaryP}
 use Rattle.reader.specs.declared.types.Job.{Job}
 use Rattle.block.specs.Pairs.{pairsFit}
 use Rattle.block.specs.Numbers.{readsFractions, numbersOf}
@@ -32,18 +32,22 @@ initialOf choice start = cond (eqb choice 0) Initial.Vapor (cond (eqb choice 1) 
 unfoldable pub branchOf : (choice : ℕ) → Branch
 branchOf choice = cond (eqb choice 0) Branch.Vapor Branch.Liquid
 
--- "Kind 5 reads +0 in temperature or start as none"; kind 7 too
+-- "Kind 5 reads +0 in temperature or start as none"; kinds 7 to 9 too, but for kind 8's temperature, which is no +0
 unfoldable pub givenOf : Float → Start
 givenOf x = cond (plusZero x) None (Given x)
 
--- "Kinds and spans"; kinds 5 and 7 search a critical point, kind 5 of one component and kind 7 of the blend
+-- "Kinds and spans"; kinds 5 and 7 search a critical point, kind 5 of one component and kind 7 of the blend; "Kind 8 follows `critical_point_binary_t`, kind 9
+-- `critical_point_binary_p`"
 unfoldable pub taskOf : (kind : ℕ) → Conditions → Task
 taskOf kind c =
     cond (eqb kind 1) (DensityIteration (c .temperature) (c .pressure) (initialOf (c .choice) (c .start)))
     (cond (eqb kind 2) (DensityIterationStable (c .temperature) (c .pressure))
     (cond (eqb kind 3) (PressureSpinodal (c .temperature) (c .start))
     (cond (eqb kind 4) (PressureSpinodalBranch (c .temperature) (branchOf (c .choice)))
-    (cond (eqb kind 6) (Spinodal (c .temperature)) (CriticalPoint (givenOf (c .temperature)) (givenOf (c .start)))))))
+    (cond (eqb kind 6) (Spinodal (c .temperature))
+    (cond (eqb kind 8) (CriticalPointBinaryT (c .temperature) (givenOf (c .start)))
+    (cond (eqb kind 9) (CriticalPointBinaryP (c .pressure) (givenOf (c .temperature)) (givenOf (c .start)))
+    (CriticalPoint (givenOf (c .temperature)) (givenOf (c .start)))))))))
 
 -- the whole blend, or in kinds 5 and 6 the chosen component alone
 unfoldable pub searched : (kind choice : ℕ) → Blend → Blend

@@ -80,6 +80,12 @@ fn task(kind: u64, c: Conditions) -> Task
     if kind == 6 {
         return Task::Spinodal(c.temperature);
     }
+    if kind == 8 {
+        return Task::CriticalPointBinaryT(c.temperature, given(c.start));
+    }
+    if kind == 9 {
+        return Task::CriticalPointBinaryP(c.pressure, given(c.temperature), given(c.start));
+    }
     Task::CriticalPoint(given(c.temperature), given(c.start))
 }
 

@@ -19,6 +19,10 @@ pub enum Task {
     CriticalPoint(Start, Start),
     // temperature
     Spinodal(f64),
+    // temperature; starting density, if given
+    CriticalPointBinaryT(f64, Start),
+    // pressure; temperature and starting density, each if given
+    CriticalPointBinaryP(f64, Start, Start),
 }
 
 // A job, with the blend that it searches. On a refusal the blend is empty.

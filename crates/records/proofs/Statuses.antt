@@ -6,11 +6,12 @@ use mathlib.Core.List.{List, _++_}
 use native.Mathlib.Omega.{arith}
 use lib.ListN.{length, take, drop}
 use lib.Seq.{take-at, drop-append-add}
-use lib.Ieee.{Float, toBits, ofBits}
+use lib.Ieee.{toBits, ofBits}
 use borrow.Author.Tests.{eq-eqb}
 use Rattle.buf.specs.Bytes.{bytesOf, zeros, numAt, u64At, part, le}
 use Rattle.buf.proofs.Laws.{le-bytesOf, length-bytesOf}
 use Rattle.float.specs.Ops.{f0}
+use Rattle.eos.specs.declared.types.Blend.{Blend}
 use Rattle.solver.specs.declared.types.Refusal.the-variants.{StartNotPositive, NotConverged, IterationFailed, BothPhasesFailed, WrongBranch, Supercritical, NotFinite}
 use Rattle.solver.specs.declared.types.Answer.{Answer}
 use Rattle.solver.specs.declared.types.Answer.the-variants.{Found, Refused}
@@ -43,10 +44,11 @@ answer-status (Refused WrongBranch) = SearchStatus.refused {number = 25} (omega 
 answer-status (Refused Supercritical) = SearchStatus.refused {number = 26} (omega arith)
 answer-status (Refused NotFinite) = SearchStatus.refused {number = 27} (omega arith)
 
-task-status : (ev : Evaluator) (m : Float) (kind : ℕ) (c : Conditions) → SearchStatus (endOf ev (courseOf m (taskOf kind c)) .status)
+task-status : (ev : Evaluator) (blend : Blend) (kind : ℕ) (c : Conditions) → SearchStatus (endOf ev (courseOf blend (taskOf kind c)) .status)
 unfolding courseOf endOf searchEnd
-task-status ev m kind c =
-    task-keeps (λ (task : Task). SearchStatus (endOf ev (courseOf m task) .status)) kind c (answer-status _) (answer-status _) (answer-status _) (answer-status _) (answer-status _) (answer-status _)
+task-status ev blend kind c =
+    task-keeps (λ (task : Task). SearchStatus (endOf ev (courseOf blend task) .status)) kind c (answer-status _) (answer-status _) (answer-status _) (answer-status _) (answer-status _) (answer-status _) (answer-status _)
+    (answer-status _)
 
 -- ---- numbers one after the other
 
@@ -72,7 +74,7 @@ refused-bytes number = ap (λ (s : List ℕ). bytesOf 8 number ++ s) rest
     rest : floatBytes f0 ++ (floatBytes f0 ++ (floatBytes f0 ++ (bytesOf 8 0 ++ zeros 8))) ≡ zeros 40
     rest = unfold zeros bytesOf toBits ofBits in refl
 
-module _ (kind n : ℕ) (block : List ℕ) (k : Inside 1 7 kind) (c : CountRight kind n) (l : length block ≡ 640) where
+module _ (kind n : ℕ) (block : List ℕ) (k : Inside 1 9 kind) (c : CountRight kind n) (l : length block ≡ 640) where
   abbrev job : Job
   job = view kind n block
 
@@ -89,7 +91,7 @@ module _ (kind n : ℕ) (block : List ℕ) (k : Inside 1 7 kind) (c : CountRight
 
   view-is : job ≡ by-checks (pairs kind n block) (components kind n block) (interactions kind n block) (fractions kind n block) (sum kind n block) (conditions kind n block) (run kind n block)
   unfolding view checked lastChecks
-  view-is = rw (inside-true 1 7 kind k, count-true kind n c, eq-eqb (length block) 640 l)
+  view-is = rw (inside-true 1 9 kind k, count-true kind n c, eq-eqb (length block) 640 l)
 
   status-tests : DataTests kind n block (outcomeOf job .status)
   status-tests = rw view-is (go _ _ _ _ _ _ _ refl refl refl refl refl refl refl)

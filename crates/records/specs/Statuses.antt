@@ -89,4 +89,4 @@ module _ (kind n : ℕ) (block : List ℕ) where
     pub evaluations : evaluationsIn ≤ spanOf kind
 
 abbrev pub Statuses : Type 0
-Statuses = (kind n : ℕ) (block : List ℕ) → Inside 1 7 kind → CountRight kind n → length block ≡ 640 → Sealed kind n block
+Statuses = (kind n : ℕ) (block : List ℕ) → Inside 1 9 kind → CountRight kind n → length block ≡ 640 → Sealed kind n block

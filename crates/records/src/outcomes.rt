@@ -59,5 +59,11 @@ pub fn run_job(job: Job) -> Outcome
             ended(solver_critical::critical_point(blend, temperature, density))
         }
         Task::Spinodal(temperature) => ended(solver_critical::spinodal(blend, temperature)),
+        Task::CriticalPointBinaryT(temperature, density) => {
+            ended(solver_binary::critical_point_binary_t(blend, temperature, density))
+        }
+        Task::CriticalPointBinaryP(pressure, temperature, density) => {
+            ended(solver_binary::critical_point_binary_p(blend, pressure, temperature, density))
+        }
     }
 }

@@ -40,16 +40,16 @@ false-outside least most x e = go (leb least x) refl e
 
 pub count-true : (kind n : ℕ) → CountRight kind n → countFits kind n ≡ true
 unfolding countFits
-count-true kind n c = go (eqb kind 7) refl
+count-true kind n c = go (leb 7 kind) refl
   where
-    go : (b : Bool) → eqb kind 7 ≡ b → cond b (eqb n 2) (between 1 8 n) ≡ true
-    go true k = eq-eqb n 2 (c .of-seven (eqb-true kind 7 k))
+    go : (b : Bool) → leb 7 kind ≡ b → cond b (eqb n 2) (between 1 8 n) ≡ true
+    go true k = eq-eqb n 2 (c .of-two (leb-true 7 kind k))
     go false k = inside-true 1 8 n (c .in-range)
 
 pub count-false : (kind n : ℕ) → CountWrong kind n → countFits kind n ≡ false
 unfolding countFits
-count-false kind n (CountWrong.of-seven k m) = rw (eq-eqb kind 7 k, ne-eqb n 2 m)
-count-false kind n (out-of-range o) = go (eqb kind 7)
+count-false kind n (CountWrong.of-two k m) = rw (le-leb 7 kind k, ne-eqb n 2 m)
+count-false kind n (out-of-range o) = go (leb 7 kind)
   where
     not-two : (m : ℕ) → Outside 1 8 m → m ≡ 2 → ⊥
     not-two m (below h) e = omega arith
@@ -61,10 +61,10 @@ count-false kind n (out-of-range o) = go (eqb kind 7)
 
 false-count : (kind n : ℕ) → countFits kind n ≡ false → CountWrong kind n
 unfolding countFits
-false-count kind n e = go (eqb kind 7) refl e
+false-count kind n e = go (leb 7 kind) refl e
   where
-    go : (b : Bool) → eqb kind 7 ≡ b → cond b (eqb n 2) (between 1 8 n) ≡ false → CountWrong kind n
-    go true k e = CountWrong.of-seven (eqb-true kind 7 k) (eqb-false n 2 e)
+    go : (b : Bool) → leb 7 kind ≡ b → cond b (eqb n 2) (between 1 8 n) ≡ false → CountWrong kind n
+    go true k e = CountWrong.of-two (leb-true 7 kind k) (eqb-false n 2 e)
     go false k e = out-of-range (false-outside 1 8 n e)
 
 -- ---- submit
@@ -72,24 +72,24 @@ false-count kind n e = go (eqb kind 7) refl e
 submit-only : (queue kind n size held : ℕ) (v : Verdict) → SubmitTests queue kind n size held v → submitVerdict queue kind n size held ≡ v
 unfolding submitVerdict
 submit-only queue kind n size held v (SubmitTests.refused-1 q) = rw (lt-leb queue 3 q)
-submit-only queue kind n size held v (SubmitTests.refused-2 q k) = rw (le-leb queue 3 q, outside-false 1 7 kind k)
-submit-only queue kind n size held v (SubmitTests.refused-3 q k c) = rw (le-leb queue 3 q, inside-true 1 7 kind k, count-false kind n c)
-submit-only queue kind n size held v (SubmitTests.refused-8 q k c s) = rw (le-leb queue 3 q, inside-true 1 7 kind k, count-true kind n c, ne-eqb size 640 s)
-submit-only queue kind n size held v (SubmitTests.refused-4 q k c s h) = rw (le-leb queue 3 q, inside-true 1 7 kind k, count-true kind n c, eq-eqb size 640 s, le-ltb held 8 h)
-submit-only queue kind n size held v (SubmitTests.passed q k c s h) = rw (le-leb queue 3 q, inside-true 1 7 kind k, count-true kind n c, eq-eqb size 640 s, lt-ltb held 8 h)
+submit-only queue kind n size held v (SubmitTests.refused-2 q k) = rw (le-leb queue 3 q, outside-false 1 9 kind k)
+submit-only queue kind n size held v (SubmitTests.refused-3 q k c) = rw (le-leb queue 3 q, inside-true 1 9 kind k, count-false kind n c)
+submit-only queue kind n size held v (SubmitTests.refused-8 q k c s) = rw (le-leb queue 3 q, inside-true 1 9 kind k, count-true kind n c, ne-eqb size 640 s)
+submit-only queue kind n size held v (SubmitTests.refused-4 q k c s h) = rw (le-leb queue 3 q, inside-true 1 9 kind k, count-true kind n c, eq-eqb size 640 s, le-ltb held 8 h)
+submit-only queue kind n size held v (SubmitTests.passed q k c s h) = rw (le-leb queue 3 q, inside-true 1 9 kind k, count-true kind n c, eq-eqb size 640 s, lt-ltb held 8 h)
 
 submit-holds : (queue kind n size held : ℕ) → SubmitTests queue kind n size held (submitVerdict queue kind n size held)
 unfolding submitVerdict
-submit-holds queue kind n size held = go (leb queue 3) (between 1 7 kind) (countFits kind n) (eqb size 640) (ltb held 8) refl refl refl refl refl
+submit-holds queue kind n size held = go (leb queue 3) (between 1 9 kind) (countFits kind n) (eqb size 640) (ltb held 8) refl refl refl refl refl
   where
-    go : (a b c d e : Bool) → leb queue 3 ≡ a → between 1 7 kind ≡ b → countFits kind n ≡ c → eqb size 640 ≡ d → ltb held 8 ≡ e
+    go : (a b c d e : Bool) → leb queue 3 ≡ a → between 1 9 kind ≡ b → countFits kind n ≡ c → eqb size 640 ≡ d → ltb held 8 ≡ e
         → SubmitTests queue kind n size held (check a 1 (check b 2 (check c 3 (check d 8 (check e 4 accept)))))
     go false b c d e q k m s h = SubmitTests.refused-1 (leb-false queue 3 q)
-    go true false c d e q k m s h = SubmitTests.refused-2 (leb-true queue 3 q) (false-outside 1 7 kind k)
-    go true true false d e q k m s h = SubmitTests.refused-3 (leb-true queue 3 q) (true-inside 1 7 kind k) (false-count kind n m)
-    go true true true false e q k m s h = SubmitTests.refused-8 (leb-true queue 3 q) (true-inside 1 7 kind k) (count-right kind n m) (eqb-false size 640 s)
-    go true true true true false q k m s h = SubmitTests.refused-4 (leb-true queue 3 q) (true-inside 1 7 kind k) (count-right kind n m) (eqb-true size 640 s) (ltb-false held 8 h)
-    go true true true true true q k m s h = SubmitTests.passed (leb-true queue 3 q) (true-inside 1 7 kind k) (count-right kind n m) (eqb-true size 640 s) (ltb-true held 8 h)
+    go true false c d e q k m s h = SubmitTests.refused-2 (leb-true queue 3 q) (false-outside 1 9 kind k)
+    go true true false d e q k m s h = SubmitTests.refused-3 (leb-true queue 3 q) (true-inside 1 9 kind k) (false-count kind n m)
+    go true true true false e q k m s h = SubmitTests.refused-8 (leb-true queue 3 q) (true-inside 1 9 kind k) (count-right kind n m) (eqb-false size 640 s)
+    go true true true true false q k m s h = SubmitTests.refused-4 (leb-true queue 3 q) (true-inside 1 9 kind k) (count-right kind n m) (eqb-true size 640 s) (ltb-false held 8 h)
+    go true true true true true q k m s h = SubmitTests.passed (leb-true queue 3 q) (true-inside 1 9 kind k) (count-right kind n m) (eqb-true size 640 s) (ltb-true held 8 h)
 
 -- ---- turn
 

@@ -17,29 +17,29 @@ pub data Outside (least most x : ℕ) : Type 0 where
   below : x < least → Outside least most x
   above : most < x → Outside least most x
 
--- "N not 1 to 8", or "kind 7 with N other than 2"
+-- "N not 1 to 8", or "kind 7 with N other than 2", and 8 and 9 likewise, "unless N is 2"
 pub data CountWrong (kind n : ℕ) : Type 0 where
   out-of-range : Outside 1 8 n → CountWrong kind n
-  of-seven : kind ≡ 7 → (n ≡ 2 → ⊥) → CountWrong kind n
+  of-two : 7 ≤ kind → (n ≡ 2 → ⊥) → CountWrong kind n
 
 pub record CountRight (kind n : ℕ) : Type 0 where
   pub in-range : Inside 1 8 n
-  pub of-seven : kind ≡ 7 → n ≡ 2
+  pub of-two : 7 ≤ kind → n ≡ 2
 
 -- "Submit tests 6, 1, 2, 3, 8, 4"
 pub data SubmitTests (queue kind n size held : ℕ) : Verdict → Type 0 where
   -- "1 queue above 3"
   refused-1 : 3 < queue → SubmitTests queue kind n size held (refuse 1)
-  -- "2 kind not 1 to 6"; "2 passes kind 7"
-  refused-2 : queue ≤ 3 → Outside 1 7 kind → SubmitTests queue kind n size held (refuse 2)
-  -- "3 N not 1 to 8"; "3 is also given for kind 7 with N other than 2"
-  refused-3 : queue ≤ 3 → Inside 1 7 kind → CountWrong kind n → SubmitTests queue kind n size held (refuse 3)
+  -- "2 kind not 1 to 6"; "2 passes kind 7"; "2 passes 8 and 9"
+  refused-2 : queue ≤ 3 → Outside 1 9 kind → SubmitTests queue kind n size held (refuse 2)
+  -- "3 N not 1 to 8"; "3 is also given for kind 7 with N other than 2"; for 8 and 9 "3 is given .. unless N is 2"
+  refused-3 : queue ≤ 3 → Inside 1 9 kind → CountWrong kind n → SubmitTests queue kind n size held (refuse 3)
   -- "8 block not 640 bytes"
-  refused-8 : queue ≤ 3 → Inside 1 7 kind → CountRight kind n → (size ≡ 640 → ⊥) → SubmitTests queue kind n size held (refuse 8)
+  refused-8 : queue ≤ 3 → Inside 1 9 kind → CountRight kind n → (size ≡ 640 → ⊥) → SubmitTests queue kind n size held (refuse 8)
   -- "4 eight jobs held"
-  refused-4 : queue ≤ 3 → Inside 1 7 kind → CountRight kind n → size ≡ 640 → 8 ≤ held → SubmitTests queue kind n size held (refuse 4)
+  refused-4 : queue ≤ 3 → Inside 1 9 kind → CountRight kind n → size ≡ 640 → 8 ≤ held → SubmitTests queue kind n size held (refuse 4)
   -- a submit is accepted where none of these comes
-  passed : queue ≤ 3 → Inside 1 7 kind → CountRight kind n → size ≡ 640 → held < 8 → SubmitTests queue kind n size held accept
+  passed : queue ≤ 3 → Inside 1 9 kind → CountRight kind n → size ≡ 640 → held < 8 → SubmitTests queue kind n size held accept
 
 -- "turn 6, 5"
 pub data TurnTests (size : ℕ) : Verdict → Type 0 where

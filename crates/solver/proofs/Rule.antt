@@ -11,7 +11,7 @@ use Rattle.solver.specs.declared.types.Answer.{Answer}
 use Rattle.solver.specs.declared.types.Answer.the-variants.{Found, Refused}
 use Rattle.solver.specs.declared.types.Ran.{Ran}
 use Rattle.solver.specs.Answer.{numberOf, statusOf, is27}
-use Rattle.solver.specs.Search.{Evaluation, Yield, Evaluator, Search, done, ask, test, tested, bind, onFound, andThen, run, clean, answerOf, foundAnd, Ruled}
+use Rattle.solver.specs.Search.{Query, Yield, Evaluator, Search, done, ask, test, tested, bind, onFound, andThen, run, clean, answerOf, foundAnd, Ruled}
 use Rattle.solver.proofs.Runs.{run-from, run-bind}
 
 -- ---- the Rust itself
@@ -20,7 +20,7 @@ use Rattle.solver.proofs.Runs.{run-from, run-bind}
 pub clean-agrees : (ev : Evaluator) (n : ℕ) (t : Search) → clean ev t ≡ true → run finiteOf ev n t ≡ run (λ _. true) ev n t
 unfolding run clean
 clean-agrees ev n (done a) c = refl
-clean-agrees ev n (ask e t ρ k) c = clean-agrees ev (n + 1) (k (ev e t ρ)) c
+clean-agrees ev n (ask q k) c = clean-agrees ev (n + 1) (k (ev q)) c
 clean-agrees ev n (test x k) c = by (finiteOf x) c (λ q. clean-agrees ev n (k true) q)
   where
     by : (b : Bool) → b && clean ev (k true) ≡ true → (clean ev (k true) ≡ true → run finiteOf ev n (k true) ≡ run (λ _. true) ev n (k true)) → run finiteOf ev n (k b) ≡ run (λ _. true) ev n (k true)
@@ -33,7 +33,7 @@ clean-agrees ev n (test x k) c = by (finiteOf x) c (λ q. clean-agrees ev n (k t
 pub exactly-27 : (ev : Evaluator) (n : ℕ) {t : Search} → Ruled t → is27 (run finiteOf ev n t .answer) ≡ not (clean ev t)
 unfolding run clean is27 statusOf numberOf
 exactly-27 ev n (Ruled.ended e) = e
-exactly-27 ev n (Ruled.asks {e = e} {t = t} {ρ = ρ} f) = exactly-27 ev (n + 1) (f (ev e t ρ))
+exactly-27 ev n (Ruled.asks {q = q} f) = exactly-27 ev (n + 1) (f (ev q))
 exactly-27 ev n (Ruled.tests {x = x} {k = k} e r) = by (finiteOf x) (exactly-27 ev n r)
   where
     by : (b : Bool) → is27 (run finiteOf ev n (k true) .answer) ≡ not (clean ev (k true)) → is27 (run finiteOf ev n (k b) .answer) ≡ not (b && clean ev (k true))
@@ -80,7 +80,7 @@ then-never ev t f g = then-told ev t f (is27 (answerOf ev t)) (λ v. false) refl
 pub ruled-done : {a : Answer} → is27 a ≡ false → Ruled (done a)
 ruled-done e = Ruled.ended e
 
-pub ruled-asks : {e : Evaluation} {t ρ : Float} {k : Yield e → Search} → ((y : Yield e) → Ruled (k y)) → Ruled (ask e t ρ k)
+pub ruled-asks : {q : Query} {k : Yield q → Search} → ((y : Yield q) → Ruled (k y)) → Ruled (ask q k)
 ruled-asks f = Ruled.asks f
 
 pub ruled-tested : {t : Search} (x : Float) → Ruled t → Ruled (tested x t)

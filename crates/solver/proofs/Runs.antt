@@ -21,7 +21,7 @@ run-later : (ok : Float → Bool) (ev : Evaluator) (n m : ℕ) (t : Search)
     → run ok ev (n + m) t ≡ record { answer = run ok ev m t .answer; evaluations = n + run ok ev m t .evaluations }
 unfolding run
 run-later ok ev n m (done a) = refl
-run-later ok ev n m (ask e t ρ k) = let q : n + m + 1 ≡ n + (m + 1) = omega arith in rw q (run-later ok ev n (m + 1) (k (ev e t ρ)))
+run-later ok ev n m (ask q k) = let z : n + m + 1 ≡ n + (m + 1) = omega arith in rw z (run-later ok ev n (m + 1) (k (ev q)))
 run-later ok ev n m (test x k) = run-later ok ev n m (k (ok x))
 
 pub run-from : (ok : Float → Bool) (ev : Evaluator) (n : ℕ) (t : Search)
@@ -32,14 +32,14 @@ pub run-bind : (ok : Float → Bool) (ev : Evaluator) (n : ℕ) (t : Search) (f 
     → run ok ev n (bind t f) ≡ run ok ev (run ok ev n t .evaluations) (f (run ok ev n t .answer))
 unfolding run bind
 run-bind ok ev n (done a) f = refl
-run-bind ok ev n (ask e t ρ k) f = run-bind ok ev (n + 1) (k (ev e t ρ)) f
+run-bind ok ev n (ask q k) f = run-bind ok ev (n + 1) (k (ev q)) f
 run-bind ok ev n (test x k) f = run-bind ok ev n (k (ok x)) f
 
 -- the tests that stand first do not change the end
 pub run-settle : (ok : Float → Bool) (ev : Evaluator) (n : ℕ) (t : Search) → run ok ev n (settle ok t) ≡ run ok ev n t
 unfolding run settle
 run-settle ok ev n (done a) = refl
-run-settle ok ev n (ask e t ρ k) = refl
+run-settle ok ev n (ask q k) = refl
 run-settle ok ev n (test x k) = run-settle ok ev n (k (ok x))
 
 -- document 01's run for a blend, after n evaluations

@@ -7,9 +7,9 @@ use Rattle.solver.specs.declared.types.Values.{Values}
 use Rattle.solver.specs.declared.types.Refusal.the-variants.{NotFinite}
 use Rattle.solver.specs.declared.types.Answer.{Answer}
 use Rattle.solver.specs.declared.types.Answer.the-variants.{Found, Refused}
-use Rattle.solver.specs.Search.{Evaluation, Yield, Evaluator, Search, ask, refuse, tested, bind, onFound, andThen, run, Within}
+use Rattle.solver.specs.Search.{Query, Yield, Evaluator, Search, ask, refuse, tested, bind, onFound, andThen, run, Within}
 
-pub asked : (m n : ℕ) {e : Evaluation} {t ρ : Float} {k : Yield e → Search} → suc m ≤ n → ((y : Yield e) → Within m (k y)) → Within n (ask e t ρ k)
+pub asked : (m n : ℕ) {q : Query} {k : Yield q → Search} → suc m ≤ n → ((y : Yield q) → Within m (k y)) → Within n (ask q k)
 asked m n l f = Within.asks l f
 
 pub within-more : {m n : ℕ} {t : Search} → Within m t → m ≤ n → Within n t
@@ -47,5 +47,5 @@ within-cond false v w = w
 pub run-most : (ok : Float → Bool) (ev : Evaluator) (n : ℕ) {m : ℕ} {t : Search} → Within m t → run ok ev n t .evaluations ≤ n + m
 unfolding run
 run-most ok ev n (Within.ended) = omega arith
-run-most ok ev n (Within.asks {e = e} {t = t} {ρ = ρ} l f) = let h = run-most ok ev (n + 1) (f (ev e t ρ)) in omega arith
+run-most ok ev n (Within.asks {q = q} l f) = let h = run-most ok ev (n + 1) (f (ev q)) in omega arith
 run-most ok ev n (Within.tests {x = x} f) = run-most ok ev n (f (ok x))

@@ -7,19 +7,19 @@ use lib.Ieee.{Float}
 use Rattle.float.specs.Sign.{finiteOf}
 use Rattle.solver.specs.declared.types.Refusal.the-variants.{NotFinite}
 use Rattle.solver.specs.declared.types.Answer.{Answer}
-use Rattle.solver.specs.Search.{Evaluator, Search, done, ask, test, refuse, tested, bind, run, settle, Going, nextOf, next, after, fresh, Within}
+use Rattle.solver.specs.Search.{densityOf, Evaluator, Search, done, ask, test, refuse, tested, bind, run, settle, Going, nextOf, next, after, fresh, Within}
 
 -- ---- the tests that stand first
 pub settle-twice : (ok : Float → Bool) (t : Search) → settle ok (settle ok t) ≡ settle ok t
 unfolding settle
 settle-twice ok (done a) = refl
-settle-twice ok (ask e t ρ k) = refl
+settle-twice ok (ask q k) = refl
 settle-twice ok (test x k) = settle-twice ok (k (ok x))
 
 pub settle-bind : (ok : Float → Bool) (t : Search) (f : Answer → Search) → settle ok (bind (settle ok t) f) ≡ settle ok (bind t f)
 unfolding settle bind
 settle-bind ok (done a) f = refl
-settle-bind ok (ask e t ρ k) f = refl
+settle-bind ok (ask q k) f = refl
 settle-bind ok (test x k) f = settle-bind ok (k (ok x)) f
 
 pub settle-tested : (ok : Float → Bool) (x : Float) (t : Search) → settle ok (tested x t) ≡ cond (ok x) (settle ok t) (refuse NotFinite)
@@ -57,7 +57,7 @@ pub finishes : (ok : Float → Bool) (ev : Evaluator) {m : ℕ} {t : Search} →
 unfolding after nextOf run settle
 finishes ok ev (Within.ended {a = a}) N h n d = (ap (λ (g : Going). g .left) (after-done ok ev N a n d), ap (λ (g : Going). g .evaluations) (after-done ok ev N a n d))
 finishes ok ev (Within.asks l f) zero h n d = absurd (omega arith)
-finishes ok ev (Within.asks {e = e} {t = t} {ρ = ρ} l f) (suc N) h n d = finishes ok ev (f (ev e t ρ)) N (omega arith) (n + 1) _
+finishes ok ev (Within.asks {q = q} l f) (suc N) h n d = finishes ok ev (f (ev q)) N (omega arith) (n + 1) _
 finishes ok ev (Within.tests {x = x} f) N h n d = finishes ok ev (f (ok x)) N h n d
 
 -- ---- one evaluation
@@ -69,9 +69,9 @@ pub next-bind : (ok : Float → Bool) (ev : Evaluator) (t : Search) (f : Answer 
     → nextOf ok ev t n d ≡ moved n ρ u → nextOf ok ev (bind t f) n d ≡ moved n ρ (settle ok (bind u f))
 unfolding nextOf bind
 next-bind ok ev (done a) f n d u ρ q = let z : n ≡ n + 1 = ap (λ (g : Going). g .evaluations) q in absurd (omega arith)
-next-bind ok ev (ask e t ρ₁ k) f n d u ρ q =
-    ap (moved n ρ₁) (sym (settle-bind ok (k (ev e t ρ₁)) f))
-    ∙ ap (λ (g : Going). moved n (g .latest) (settle ok (bind (g .left) f))) q
+next-bind ok ev (ask q k) f n d u ρ e =
+    ap (moved n (densityOf q)) (sym (settle-bind ok (k (ev q)) f))
+    ∙ ap (λ (g : Going). moved n (g .latest) (settle ok (bind (g .left) f))) e
 next-bind ok ev (test x k) f n d u ρ q = next-bind ok ev (k (ok x)) f n d u ρ q
 
 -- ---- machines: anything whose step is one evaluation of the search that it stands for

@@ -4,10 +4,11 @@ use mathlib.Core.Path.{_≡_}
 use Prim.Native.Nat.{ℕ, zero, suc, _+_, _≤_}
 use mathlib.Core.Bool.{Bool, true, false, cond, _&&_}
 use lib.Ieee.{Float}
-use Rattle.float.specs.Ops.{f0}
+use Rattle.float.specs.Ops.{_⊕_, f0}
 use Rattle.float.specs.Sign.{finiteOf}
 use Rattle.evaluations.specs.declared.types.Pressure.{Pressure}
 use Rattle.evaluations.specs.declared.types.Criticality.{Criticality}
+use Rattle.evaluations.specs.declared.types.PressureCriticality.{PressureCriticality}
 use Rattle.evaluations.specs.declared.types.Stability.{Stability}
 use Rattle.solver.specs.declared.types.Values.{Values}
 use Rattle.solver.specs.declared.types.Refusal.{Refusal}
@@ -17,29 +18,45 @@ use Rattle.solver.specs.declared.types.Answer.the-variants.{Found, Refus
 use Rattle.solver.specs.declared.types.Ran.{Ran}
 use Rattle.solver.specs.Answer.{is27}
 
--- "An evaluation is one call of `p_dpdrho`, `p_dpdrho_d2pdrho2`, `_chemical_potential`, `criticality_conditions` or `stability_condition`"
-pub data Evaluation : Type 0 where
-  slope : Evaluation
-  curvature : Evaluation
-  potential : Evaluation
-  criticality : Evaluation
-  stability : Evaluation
+-- "An evaluation is one call of `p_dpdrho`, `p_dpdrho_d2pdrho2`, `_chemical_potential`, `criticality_conditions` or `stability_condition`";
+-- "A call of `criticality_conditions_p` is one evaluation". A query names it and what it asks at: the temperature and a density or two partial
+-- densities, and the pressure where that is set.
+pub data Query : Type 0 where
+  slope : (t ρ : Float) → Query
+  curvature : (t ρ : Float) → Query
+  potential : (t ρ : Float) → Query
+  criticality : (t ρ : Float) → Query
+  stability : (t ρ : Float) → Query
+  criticalityT : (t ρ0 ρ1 : Float) → Query
+  criticalityP : (p t ρ0 ρ1 : Float) → Query
 
 -- what it yields
-abbrev pub Yield : Evaluation → Type 0
-Yield slope = Pressure
-Yield curvature = Pressure
-Yield potential = Float
-Yield criticality = Criticality
-Yield stability = Stability
+abbrev pub Yield : Query → Type 0
+Yield (slope t ρ) = Pressure
+Yield (curvature t ρ) = Pressure
+Yield (potential t ρ) = Float
+Yield (criticality t ρ) = Criticality
+Yield (stability t ρ) = Stability
+Yield (criticalityT t ρ0 ρ1) = Criticality
+Yield (criticalityP p t ρ0 ρ1) = PressureCriticality
 
--- an equation of state: what each evaluation yields at a temperature and a density
+-- the density that a look shows of it: "look shows the density sum"
+abbrev pub densityOf : Query → Float
+densityOf (slope t ρ) = ρ
+densityOf (curvature t ρ) = ρ
+densityOf (potential t ρ) = ρ
+densityOf (criticality t ρ) = ρ
+densityOf (stability t ρ) = ρ
+densityOf (criticalityT t ρ0 ρ1) = ρ0 ⊕ ρ1
+densityOf (criticalityP p t ρ0 ρ1) = ρ0 ⊕ ρ1
+
+-- an equation of state: what each query yields
 abbrev pub Evaluator : Type 0
-Evaluator = (e : Evaluation) → Float → Float → Yield e
+Evaluator = (q : Query) → Yield q
 
 pub data Search : Type 0 where
   done : Answer → Search
-  ask : (e : Evaluation) → (t ρ : Float) → (Yield e → Search) → Search
+  ask : (q : Query) → (Yield q → Search) → Search
   test : Float → (Bool → Search) → Search
 
 -- a refusal of the search
@@ -53,7 +70,7 @@ tested x t = test x (λ ok. cond ok t (refuse NotFinite))
 -- the search t, then what its answer leads to
 unfoldable pub bind : Search → (Answer → Search) → Search
 bind (done a) f = f a
-bind (ask e t ρ k) f = ask e t ρ (λ y. bind (k y) f)
+bind (ask q k) f = ask q (λ y. bind (k y) f)
 bind (test x k) f = test x (λ ok. bind (k ok) f)
 
 -- the Rust's `?`: a refusal is the answer
@@ -68,13 +85,13 @@ andThen t f = bind t (onFound f)
 -- with a test that is always true the Rust itself, which has no 27.
 unfoldable pub run : (Float → Bool) → Evaluator → ℕ → Search → Ran
 run ok ev n (done a) = record { answer = a; evaluations = n }
-run ok ev n (ask e t ρ k) = run ok ev (n + 1) (k (ev e t ρ))
+run ok ev n (ask q k) = run ok ev (n + 1) (k (ev q))
 run ok ev n (test x k) = run ok ev n (k (ok x))
 
 -- no number tested along the run leaves the finite range
 unfoldable pub clean : Evaluator → Search → Bool
 clean ev (done a) = true
-clean ev (ask e t ρ k) = clean ev (k (ev e t ρ))
+clean ev (ask q k) = clean ev (k (ev q))
 clean ev (test x k) = finiteOf x && clean ev (k true)
 
 -- what a part of a search answers by itself
@@ -89,13 +106,13 @@ foundAnd (Refused r) holds = false
 -- it ends after at most n evaluations, whatever they yield and whatever the tests say
 pub data Within : ℕ → Search → Type 0 where
   ended : {n : ℕ} {a : Answer} → Within n (done a)
-  asks : {m n : ℕ} {e : Evaluation} {t ρ : Float} {k : Yield e → Search} → suc m ≤ n → ((y : Yield e) → Within m (k y)) → Within n (ask e t ρ k)
+  asks : {m n : ℕ} {q : Query} {k : Yield q → Search} → suc m ≤ n → ((y : Yield q) → Within m (k y)) → Within n (ask q k)
   tests : {n : ℕ} {x : Float} {k : Bool → Search} → ((ok : Bool) → Within n (k ok)) → Within n (test x k)
 
 -- every 27 comes from a number that is not finite: a failed test ends the search with it, and nothing else does
 pub data Ruled : Search → Type 0 where
   ended : {a : Answer} → is27 a ≡ false → Ruled (done a)
-  asks : {e : Evaluation} {t ρ : Float} {k : Yield e → Search} → ((y : Yield e) → Ruled (k y)) → Ruled (ask e t ρ k)
+  asks : {q : Query} {k : Yield q → Search} → ((y : Yield q) → Ruled (k y)) → Ruled (ask q k)
   tests : {x : Float} {k : Bool → Search} → k false ≡ refuse NotFinite → Ruled (k true) → Ruled (test x k)
 
 -- ---- one evaluation at a time
@@ -103,7 +120,7 @@ pub data Ruled : Search → Type 0 where
 -- the tests that stand first are made
 unfoldable pub settle : (Float → Bool) → Search → Search
 settle ok (done a) = done a
-settle ok (ask e t ρ k) = ask e t ρ k
+settle ok (ask q k) = ask q k
 settle ok (test x k) = settle ok (k (ok x))
 
 -- a search under way: what is left of it, the evaluations made, the density of the latest one
@@ -114,7 +131,7 @@ pub record Going : Type 0 where
 
 unfoldable pub nextOf : (Float → Bool) → Evaluator → Search → ℕ → Float → Going
 nextOf ok ev (done a) n d = record { left = done a; evaluations = n; latest = d }
-nextOf ok ev (ask e t ρ k) n d = record { left = settle ok (k (ev e t ρ)); evaluations = n + 1; latest = ρ }
+nextOf ok ev (ask q k) n d = record { left = settle ok (k (ev q)); evaluations = n + 1; latest = densityOf q }
 nextOf ok ev (test x k) n d = nextOf ok ev (k (ok x)) n d
 
 -- one evaluation further, with the tests that follow it

@@ -29,5 +29,13 @@ endedNumbers a = record { counters = record { stage = 0; tag = 0; status = statu
 unfoldable pub statusFits : ℕ → Bool
 statusFits status = eqb status 0 || (not (ltb status 21) && ltb status 28)
 
-unfoldable pub inRanges : Counters → Bool
-inRanges c = ltb (c .stage) 5 && (ltb (c .tag) 7 && (statusFits (c .status) && (ltb (c .left) 50 && (ltb (c .way) 4 && ltb (c .rounds) 50))))
+-- the rounds left in a search of the kind are below this: kinds 8 and 9 have `MAX_ITER_CRIT_POINT_BINARY`, the others at most 50
+unfoldable pub roundsOf : (kind : ℕ) → ℕ
+roundsOf kind = cond (eqb kind 8 || eqb kind 9) 200 50
+
+-- each counter is within its range, and fewer than this many rounds are left
+unfoldable pub countersBelow : (rounds : ℕ) → Counters → Bool
+countersBelow rounds c = ltb (c .stage) 5 && (ltb (c .tag) 7 && (statusFits (c .status) && (ltb (c .left) 50 && (ltb (c .way) 4 && ltb (c .rounds) rounds))))
+
+abbrev pub inRanges : (kind : ℕ) → Counters → Bool
+inRanges kind c = countersBelow (roundsOf kind) c

@@ -1,6 +1,6 @@
 // Answers and places of a search as the numbers that a board stores, and back.
 ghost use mathlib.Core.Path.{_≡_};
-ghost use Rattle.solver.specs.Stored.{refusalBy, answerBy, endedNumbers, statusFits, inRanges};
+ghost use Rattle.solver.specs.Stored.{refusalBy, answerBy, endedNumbers, statusFits, roundsOf, countersBelow, inRanges};
 use crate::answer::status;
 use crate::answer::values;
 use crate::types::Answer;
@@ -73,9 +73,21 @@ fn status_fits(status: u64) -> bool
     status < 28
 }
 
-// each counter is within its range
-pub fn in_ranges(counters: Counters) -> bool
-    ensures { λ r. ⌜ r ≡ inRanges counters ⌝ }
+fn rounds_of(kind: u64) -> u64
+    ensures { λ r. ⌜ r ≡ roundsOf kind ⌝ }
+{
+    if kind == 8 {
+        return 200;
+    }
+    if kind == 9 {
+        return 200;
+    }
+    50
+}
+
+// each counter is within its range, and fewer than this many rounds are left
+fn counters_below(rounds: u64, counters: Counters) -> bool
+    ensures { λ r. ⌜ r ≡ countersBelow rounds counters ⌝ }
 {
     if 5 <= counters.stage {
         return false;
@@ -92,5 +104,12 @@ pub fn in_ranges(counters: Counters) -> bool
     if 4 <= counters.way {
         return false;
     }
-    counters.rounds < 50
+    counters.rounds < rounds
+}
+
+// each counter is within its range for a search of the kind
+pub fn in_ranges(kind: u64, counters: Counters) -> bool
+    ensures { λ r. ⌜ r ≡ inRanges kind counters ⌝ }
+{
+    counters_below(rounds_of(kind), counters)
 }

@@ -26,8 +26,8 @@ use Rattle.solver_critical.specs.Spinodal.{spinodalAnswer, bothAnswer, l
 use Rattle.solver_critical.specs.NotFinite.{criticalNotFinite, spinodalsNotFinite}
 
 -- ---- a trial, and the search of a spinodal
-ruled-tested6 : {t : Search} (y : Criticality) → Ruled t → Ruled (tested6 y t)
-ruled-tested6 y r = ruled-tested (y .l) (ruled-tested (y .c2) (ruled-tested (y .«dl_dt») (ruled-tested (y .«dl_drho») (ruled-tested (y .«dc2_dt») (ruled-tested (y .«dc2_drho») r)))))
+pub ruled-tested6 : {t : Search} (y : Criticality) → Ruled t → Ruled (tested6 y t)
+ruled-tested6 y r = ruled-tested (y .l) (ruled-tested (y .c2) (ruled-tested (y .«dl_d0») (ruled-tested (y .«dl_d1») (ruled-tested (y .«dc2_d0») (ruled-tested (y .«dc2_d1») r)))))
 
 ruled-solve : (maxdensity : Float) (p : Point) (y : Criticality) (s : Solved) (again : Point → Search) → ((p : Point) → Ruled (again p)) → Ruled (afterSolve maxdensity p y s again)
 unfolding afterSolve criticalAnswer is27 statusOf numberOf

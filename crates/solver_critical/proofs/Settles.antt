@@ -22,16 +22,16 @@ use Rattle.solver_critical.specs.CriticalPoint.{criticalAnswer, tested6,
 use Rattle.solver_critical.specs.Spinodal.{spinodalAnswer, stabilityStep, afterStability}
 use Rattle.solver_critical.specs.Rounds.{bothFinite, finite6, steppedRound, solvedRound, criticalRound, stabilityRound}
 
-tests2 : (x y : Float) (s : Search) → settled (tested x (tested y s)) ≡ cond (bothFinite x y) (settled s) (refuse NotFinite)
+pub tests2 : (x y : Float) (s : Search) → settled (tested x (tested y s)) ≡ cond (bothFinite x y) (settled s) (refuse NotFinite)
 tests2 x y s = simp settle-tested (cond-both (finiteOf x) (finiteOf y) (settled s) (refuse NotFinite))
 
 -- two tests before others
 tests2-more : (x y : Float) (s : Search) (b : Bool) (t : Search) → settled s ≡ cond b t (refuse NotFinite) → settled (tested x (tested y s)) ≡ cond (bothFinite x y && b) t (refuse NotFinite)
 tests2-more x y s b t e = tests2 x y s ∙ rw e (cond-both (bothFinite x y) b t (refuse NotFinite))
 
-tests6 : (y : Criticality) (s : Search) → settled (tested6 y s) ≡ cond (finite6 y) (settled s) (refuse NotFinite)
+pub tests6 : (y : Criticality) (s : Search) → settled (tested6 y s) ≡ cond (finite6 y) (settled s) (refuse NotFinite)
 unfolding finite6
-tests6 y s = tests2-more (y .l) (y .c2) _ _ _ (tests2-more (y .«dl_dt») (y .«dl_drho») _ _ _ (tests2 (y .«dc2_dt») (y .«dc2_drho») s))
+tests6 y s = tests2-more (y .l) (y .c2) _ _ _ (tests2-more (y .«dl_d0») (y .«dl_d1») _ _ _ (tests2 (y .«dc2_d0») (y .«dc2_d1») s))
 
 -- ---- a round of a critical point search
 unfoldable pub led : CriticalOutcome → (Point → Search) → Search

@@ -24,10 +24,10 @@ use Rattle.solver_critical.specs.CriticalPoint.{tested6, converged, solv
 use Rattle.solver_critical.specs.Spinodal.{afterStability, spinodalFrom, calculateSpinodal, afterLiquid, afterVapor, afterCritical, spinodal}
 
 -- ---- kinds 5 and 7
-within-tested6 : {n : ℕ} {s : Search} (y : Criticality) → Within n s → Within n (tested6 y s)
+pub within-tested6 : {n : ℕ} {s : Search} (y : Criticality) → Within n s → Within n (tested6 y s)
 within-tested6 y w =
     within-tested (y .l)
-    (within-tested (y .c2) (within-tested (y .«dl_dt») (within-tested (y .«dl_drho») (within-tested (y .«dc2_dt») (within-tested (y .«dc2_drho») w)))))
+    (within-tested (y .c2) (within-tested (y .«dl_d0») (within-tested (y .«dl_d1») (within-tested (y .«dc2_d0») (within-tested (y .«dc2_d1») w)))))
 
 pub within-else : {n : ℕ} {s : Search} (a : Answer) → Within n s → Within n (orElse s a)
 unfolding orElse

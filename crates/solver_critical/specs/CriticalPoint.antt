@@ -43,7 +43,7 @@ newtonStep maxdensity p δ = let δ′ = reducedStep maxdensity (p .t) δ in rec
 
 -- the residuals' derivatives by temperature and density
 unfoldable pub jacobian : Criticality → List (List Float)
-jacobian y = (y .«dl_dt» ∷ y .«dl_drho» ∷ []) ∷ (y .«dc2_dt» ∷ y .«dc2_drho» ∷ []) ∷ []
+jacobian y = (y .«dl_d0» ∷ y .«dl_d1» ∷ []) ∷ (y .«dc2_d0» ∷ y .«dc2_d1» ∷ []) ∷ []
 
 unfoldable pub solved : Criticality → Solved
 solved y = solve2 (jacobian y) (y .l ∷ y .c2 ∷ [])
@@ -56,7 +56,7 @@ converged y = lt (normOf (y .l) (y .c2)) d1e-8
 
 -- what `criticality_conditions` yields is tested for 27
 abbrev pub tested6 : Criticality → Search → Search
-tested6 y s = tested (y .l) (tested (y .c2) (tested (y .«dl_dt») (tested (y .«dl_drho») (tested (y .«dc2_dt») (tested (y .«dc2_drho») s)))))
+tested6 y s = tested (y .l) (tested (y .c2) (tested (y .«dl_d0») (tested (y .«dl_d1») (tested (y .«dc2_d0») (tested (y .«dc2_d1») s)))))
 
 -- what the step from p leads to: temperature and density are tested for 27, and then handed out or gone on from
 unfoldable pub afterSolve : (maxdensity : Float) → Point → Criticality → Solved → (Point → Search) → Search
@@ -88,7 +88,7 @@ module _ (maxdensity : Float) where
   -- with n rounds left, at p
   unfoldable pub hkmFrom : ℕ → Point → Search
   hkmFrom zero p = refuse NotConverged
-  hkmFrom (suc n) p = ask criticality (p .t) (p .rho) (λ y. afterConditions maxdensity p y (hkmFrom n))
+  hkmFrom (suc n) p = ask (criticality (p .t) (p .rho)) (λ y. afterConditions maxdensity p y (hkmFrom n))
 
   unfoldable pub criticalPointHkm : (t ρ : Float) → Search
   criticalPointHkm t ρ = hkmFrom 50 (record { t = t; rho = ρ })

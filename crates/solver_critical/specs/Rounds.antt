@@ -21,7 +21,7 @@ abbrev pub bothFinite : Float → Float → Bool
 bothFinite x y = finiteOf x && finiteOf y
 
 unfoldable pub finite6 : Criticality → Bool
-finite6 y = bothFinite (y .l) (y .c2) && (bothFinite (y .«dl_dt») (y .«dl_drho») && bothFinite (y .«dc2_dt») (y .«dc2_drho»))
+finite6 y = bothFinite (y .l) (y .c2) && (bothFinite (y .«dl_d0») (y .«dl_d1») && bothFinite (y .«dc2_d0») (y .«dc2_d1»))
 
 -- p is where the step leads
 unfoldable pub steppedRound : (ended : Bool) → Point → CriticalOutcome

@@ -52,7 +52,7 @@ module _ (maxdensity t : Float) where
   -- with n rounds left, at ρ
   unfoldable pub spinodalFrom : ℕ → Float → Search
   spinodalFrom zero ρ = refuse Supercritical
-  spinodalFrom (suc n) ρ = ask stability t ρ (λ y. afterStability maxdensity ρ y (spinodalFrom n))
+  spinodalFrom (suc n) ρ = ask (stability t ρ) (λ y. afterStability maxdensity ρ y (spinodalFrom n))
 
   unfoldable pub calculateSpinodal : DensityInitialization → Search
   calculateSpinodal initial = spinodalFrom 50 (spinodalStart maxdensity initial)

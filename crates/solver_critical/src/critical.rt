@@ -81,28 +81,28 @@ pub fn both_finite(x: f64, y: f64) -> bool
 }
 
 // what criticality_conditions yields is finite
-fn all_finite(y: Criticality) -> bool
+pub fn all_finite(y: Criticality) -> bool
     ensures { λ r. ⌜ r ≡ finite6 y ⌝ }
 {
     if !both_finite(y.l, y.c2) {
         return false;
     }
-    if !both_finite(y.dl_dt, y.dl_drho) {
+    if !both_finite(y.dl_d0, y.dl_d1) {
         return false;
     }
-    both_finite(y.dc2_dt, y.dc2_drho)
+    both_finite(y.dc2_d0, y.dc2_d1)
 }
 
-fn has_converged(y: Criticality) -> bool
+pub fn has_converged(y: Criticality) -> bool
     ensures { λ r. ⌜ r ≡ converged y ⌝ }
 {
     linear::norm(y.l, y.c2) < 1e-8
 }
 
-fn solved(y: Criticality) -> Solved
+pub fn solved(y: Criticality) -> Solved
     ensures { λ r. ⌜ r ≡ solvedOf y ⌝ }
 {
-    let jacobian = [[y.dl_dt, y.dl_drho], [y.dc2_dt, y.dc2_drho]];
+    let jacobian = [[y.dl_d0, y.dl_d1], [y.dc2_d0, y.dc2_d1]];
     linear::solve(jacobian, [y.l, y.c2])
 }
 

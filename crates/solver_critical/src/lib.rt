@@ -3,8 +3,13 @@ mod critical;
 mod spinodals;
 mod types;
 
+pub use crate::critical::all_finite;
+pub use crate::critical::both_finite;
 pub use crate::critical::critical_point;
 pub use crate::critical::critical_round;
+pub use crate::critical::floor;
+pub use crate::critical::has_converged;
+pub use crate::critical::solved;
 pub use crate::critical::start_density;
 pub use crate::critical::trial_temperature;
 pub use crate::spinodals::both_answer;

@@ -34,7 +34,7 @@ module _ (maxdensity : Float) where
   hkm-law : (ev : Evaluator) (s : HkmSpot) (n : ℕ) (d : Float) → nextOf finiteOf ev (resumeHkm maxdensity s) n d ≡ moved n (s .p .rho) (hkmLeft maxdensity (hkmNext maxdensity ev s))
   unfolding nextOf resumeHkm hkmFrom hkmNext
   hkm-law ev s n d =
-      ap (moved n (s .p .rho)) (round-led maxdensity (hkmFrom maxdensity (s .rounds)) (s .p) (ev criticality (s .p .t) (s .p .rho)) ∙ sym (hkm-on (s .rounds) _))
+      ap (moved n (s .p .rho)) (round-led maxdensity (hkmFrom maxdensity (s .rounds)) (s .p) (ev (criticality (s .p .t) (s .p .rho))) ∙ sym (hkm-on (s .rounds) _))
 
   -- what stands at a spot asks, also where more follows
   hkm-asks : (s : HkmSpot) (f : Answer → Search) → settled (bind (resumeHkm maxdensity s) f) ≡ bind (resumeHkm maxdensity s) f

@@ -34,7 +34,7 @@ use Rattle.solver_critical_step.specs.Stored.{spotNumbers, criticalSpotN
 -- the counters of a place that asks
 pub asks-fits : (stage tag way rounds : ℕ) (x y : Float) → stage < 5 → tag < 7 → way < 4 → rounds < 50 → Fits (spotNumbers stage tag way rounds x y)
 unfolding spotNumbers statusFits
-asks-fits stage tag way rounds x y s t w r = fits _ (record { stage = s; tag = t; status = refl; left = omega arith; way = w; rounds = r })
+asks-fits stage tag way rounds x y s t w r = fits 50 _ (record { stage = s; tag = t; status = refl; left = omega arith; way = w; rounds = r })
 
 -- ---- kinds 5 and 7
 data Few : CriticalPlace → Type 0 where
@@ -44,8 +44,8 @@ data Few : CriticalPlace → Type 0 where
 
 spot-few : (stage : ℕ) (s : CriticalSpot) → Fits (criticalSpotNumbers stage s) → Few (Critical.At s)
 unfolding criticalSpotNumbers spotNumbers
-spot-few stage (Given s) e = given (below _ e .rounds)
-spot-few stage (Trial i s) e = trial (below _ e .way) (below _ e .rounds)
+spot-few stage (Given s) e = given (below 50 _ e .rounds)
+spot-few stage (Trial i s) e = trial (below 50 _ e .way) (below 50 _ e .rounds)
 
 spot-fits : (stage : ℕ) → stage < 5 → (s : CriticalSpot) → Few (Critical.At s) → Fits (criticalSpotNumbers stage s)
 unfolding criticalSpotNumbers
@@ -123,8 +123,8 @@ critical-on-fits maxdensity (Critical.At s) b = spot-fits 1 (omega arith) s b
 pub spinodals-kept : (maxdensity t : Float) (ev : Evaluator) (s : SpinodalsSpot) → Fits (spinodalsNumbers (Spinodals.At s)) → Fits (spinodalsNumbers (spinodalsNext maxdensity t ev s))
 unfolding spinodalsNext stabilityNext spinodalsNumbers spotNumbers
 spinodals-kept maxdensity t ev (CriticalSearch s) e = critical-on-fits maxdensity _ (next-few maxdensity _ ev s (spot-few 1 s e))
-spinodals-kept maxdensity t ev (VaporSpinodal critical s) e = vapor-fits critical (s .rounds) _ (below _ e .rounds)
-spinodals-kept maxdensity t ev (LiquidSpinodal vapor s) e = liquid-fits vapor (s .rounds) _ (below _ e .rounds)
+spinodals-kept maxdensity t ev (VaporSpinodal critical s) e = vapor-fits critical (s .rounds) _ (below 50 _ e .rounds)
+spinodals-kept maxdensity t ev (LiquidSpinodal vapor s) e = liquid-fits vapor (s .rounds) _ (below 50 _ e .rounds)
 
 pub spinodals-begin-fits : (maxdensity : Float) → Fits (spinodalsNumbers (spinodalsBegin maxdensity))
 unfolding spinodalsBegin

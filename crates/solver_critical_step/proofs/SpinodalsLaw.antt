@@ -35,7 +35,7 @@ module _ (maxdensity t : Float) where
       → nextOf finiteOf ev (resumeStability maxdensity t s) n d ≡ moved n (s .rho) (stabilityLeft maxdensity t (stabilityNext maxdensity t ev s))
   unfolding nextOf resumeStability spinodalFrom stabilityNext
   stability-law ev s n d =
-      ap (moved n (s .rho)) (stability-led maxdensity (s .rho) (ev stability t (s .rho)) (spinodalFrom maxdensity t (s .rounds)) ∙ sym (stability-on (s .rounds) _))
+      ap (moved n (s .rho)) (stability-led maxdensity (s .rho) (ev (stability t (s .rho))) (spinodalFrom maxdensity t (s .rounds)) ∙ sym (stability-on (s .rounds) _))
 
   -- ---- kind 6
   liquid-on : (vapor : Float) (x : StabilityPlace) → spinodalsLeft maxdensity t (liquidOn vapor x) ≡ settled (andThen (stabilityLeft maxdensity t x) (afterLiquid maxdensity t vapor))

@@ -44,7 +44,7 @@ module _ (maxdensity : Float) where
 
   -- the one evaluation, and where it leads
   unfoldable pub hkmNext : Evaluator → HkmSpot → HkmPlace
-  hkmNext ev s = hkmOn (s .rounds) (criticalRound maxdensity (s .p) (ev criticality (s .p .t) (s .p .rho)))
+  hkmNext ev s = hkmOn (s .rounds) (criticalRound maxdensity (s .p) (ev (criticality (s .p .t) (s .p .rho))))
 
 -- ---- kinds 5 and 7
 

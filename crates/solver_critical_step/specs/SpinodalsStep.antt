@@ -45,7 +45,7 @@ module _ (maxdensity t : Float) where
 
   -- the one evaluation, and where it leads
   unfoldable pub stabilityNext : Evaluator → StabilitySpot → StabilityPlace
-  stabilityNext ev s = stabilityOn (s .rounds) (stabilityRound maxdensity (s .rho) (ev stability t (s .rho)))
+  stabilityNext ev s = stabilityOn (s .rounds) (stabilityRound maxdensity (s .rho) (ev (stability t (s .rho))))
 
 -- ---- kind 6
 

@@ -21,8 +21,8 @@ unfolding lowerPotential
 equal-give-liquid liquid vapor μl μv e = rw (equal-not-below μl μv e)
 
 -- both phases found, with potentials that are finite and compare equal
-pub equal-potentials : (ev : Evaluator) (n : ℕ) (t : Float) (liquid vapor : Values) → finiteOf (ev potential t (liquid .first)) ≡ true
-    → finiteOf (ev potential t (vapor .first)) ≡ true → eq (ev potential t (liquid .first)) (ev potential t (vapor .first)) ≡ true
+pub equal-potentials : (ev : Evaluator) (n : ℕ) (t : Float) (liquid vapor : Values) → finiteOf (ev (potential t (liquid .first))) ≡ true
+    → finiteOf (ev (potential t (vapor .first))) ≡ true → eq (ev (potential t (liquid .first))) (ev (potential t (vapor .first))) ≡ true
     → run finiteOf ev n (potentials t liquid vapor) ≡ record { answer = Found liquid; evaluations = n + 1 + 1 }
 unfolding run potentials vaporPotential
-equal-potentials ev n t liquid vapor fl fv e = rw (run-tested, fl, run-tested, fv, equal-give-liquid liquid vapor (ev potential t (liquid .first)) (ev potential t (vapor .first)) e)
+equal-potentials ev n t liquid vapor fl fv e = rw (run-tested, fl, run-tested, fv, equal-give-liquid liquid vapor (ev (potential t (liquid .first))) (ev (potential t (vapor .first))) e)

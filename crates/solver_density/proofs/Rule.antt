@@ -110,7 +110,7 @@ ruled-potentials t l v =
 
 potentials-27 : (ev : Evaluator) (t : Float) (l v : Values) → is27 (answerOf ev (potentials t l v)) ≡ potentialsNotFinite ev t l v
 unfolding potentials vaporPotential potentialsNotFinite clean tested
-potentials-27 ev t l v = exactly-27 ev 0 (ruled-potentials t l v) ∙ ap (λ (b : Bool). not (finiteOf (ev potential t (l .first)) && b)) (and-true (finiteOf (ev potential t (v .first))))
+potentials-27 ev t l v = exactly-27 ev 0 (ruled-potentials t l v) ∙ ap (λ (b : Bool). not (finiteOf (ev (potential t (l .first))) && b)) (and-true (finiteOf (ev (potential t (v .first)))))
   where
     and-true : (b : Bool) → b && true ≡ b
     and-true true = refl

@@ -89,7 +89,7 @@ module _ (c : Conditions) where
 
   -- "correction for instable region"
   unfoldable pub unstable : (ρ error : Float) → Search
-  unstable ρ error = ask curvature (c .temperature) ρ (λ y. tested3 y (detour (detourOf (c .maxdensity) ρ error (y .«d2p_drho2»))))
+  unstable ρ error = ask (curvature (c .temperature) ρ) (λ y. tested3 y (detour (detourOf (c .maxdensity) ρ error (y .«d2p_drho2»))))
 
   -- what `p_dpdrho` at ρ leads to: the unstable region with the error, or the Newton step and its end or another round
   unfoldable pub afterSlope : Float → Pressure → (Float → Search) → (Float → Search) → Search
@@ -103,11 +103,11 @@ module _ (c : Conditions) where
   -- with n rounds left, at ρ
   unfoldable pub densityFrom : ℕ → Float → Search
   densityFrom zero ρ = refuse NotConverged
-  densityFrom (suc n) ρ = ask slope (c .temperature) ρ (λ y. afterSlope ρ y (λ error. andThen (unstable ρ error) (λ v. densityFrom n (v .first))) (densityFrom n))
+  densityFrom (suc n) ρ = ask (slope (c .temperature) ρ) (λ y. afterSlope ρ y (λ error. andThen (unstable ρ error) (λ v. densityFrom n (v .first))) (densityFrom n))
 
   -- the first round, n being left after it: once, a poor start is corrected and the round goes on from there
   unfoldable pub firstRound : ℕ → Search
-  firstRound n = ask slope (c .temperature) (c .start) (λ y. afterSlope (c .start) y (λ error. densityFrom (suc n) corrected) (densityFrom n))
+  firstRound n = ask (slope (c .temperature) (c .start)) (λ y. afterSlope (c .start) y (λ error. densityFrom (suc n) corrected) (densityFrom n))
 
   unfoldable pub densitySearch : Search
   densitySearch = cond (le (c .start) f0) (refuse StartNotPositive) (firstRound 49)

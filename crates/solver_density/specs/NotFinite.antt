@@ -10,7 +10,7 @@ use Rattle.solver_density.specs.Density.{densityIteration}
 
 -- a potential is not finite
 unfoldable pub potentialsNotFinite : Evaluator → (t : Float) → (liquid vapor : Values) → Bool
-potentialsNotFinite ev t liquid vapor = not (finiteOf (ev potential t (liquid .first)) && finiteOf (ev potential t (vapor .first)))
+potentialsNotFinite ev t liquid vapor = not (finiteOf (ev (potential t (liquid .first))) && finiteOf (ev (potential t (vapor .first))))
 
 -- "A phase of kind 2 .. ended so counts as failed like any other; .. a potential that isn't finite ends kind 2 itself with 27".
 -- Where p is not below the maximum density times T, the liquid's search is all of it.

@@ -44,7 +44,7 @@ module _ (maxdensity t : Float) where
   -- with n rounds left, at ρ
   unfoldable pub spinodalFrom : ℕ → Float → Search
   spinodalFrom zero ρ = refuse NotConverged
-  spinodalFrom (suc n) ρ = ask curvature t ρ (λ y. tested3 y (continued (spinodalOutcome maxdensity ρ y) (spinodalFrom n)))
+  spinodalFrom (suc n) ρ = ask (curvature t ρ) (λ y. tested3 y (continued (spinodalOutcome maxdensity ρ y) (spinodalFrom n)))
 
   -- kind 3
   unfoldable pub pressureSpinodal : Float → Search

@@ -16,10 +16,10 @@ lowerPotential liquid vapor μl μv = cond (lt μv μl) (Found vapor) (Found liq
 
 module _ (t : Float) where
   unfoldable pub vaporPotential : (liquid vapor : Values) (μl : Float) → Search
-  vaporPotential liquid vapor μl = ask potential t (vapor .first) (λ μv. tested μv (done (lowerPotential liquid vapor μl μv)))
+  vaporPotential liquid vapor μl = ask (potential t (vapor .first)) (λ μv. tested μv (done (lowerPotential liquid vapor μl μv)))
 
   unfoldable pub potentials : (liquid vapor : Values) → Search
-  potentials liquid vapor = ask potential t (liquid .first) (λ μl. tested μl (vaporPotential liquid vapor μl))
+  potentials liquid vapor = ask (potential t (liquid .first)) (λ μl. tested μl (vaporPotential liquid vapor μl))
 
   -- both phases searched, each found or failed
   unfoldable pub stablePhase : (liquid vapor : Answer) → Search

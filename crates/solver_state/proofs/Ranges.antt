@@ -9,7 +9,7 @@ use Rattle.float.specs.Ops.{f0}
 use Rattle.solver.specs.declared.types.Numbers.{Numbers}
 use Rattle.solver.specs.Stored.{statusFits}
 use Rattle.solver.specs.Search.{Evaluator}
-use Rattle.solver.proofs.Ranges.{Fits, Below, below, fits, status-fits, ended-fits}
+use Rattle.solver.proofs.Ranges.{FitsBelow, Fits, Below, below, fits, status-fits, ended-below, ended-fits}
 use Rattle.solver_density.specs.declared.types.Branch.{Branch}
 use Rattle.solver_density.specs.declared.types.Conditions.{Conditions}
 use Rattle.solver_step.specs.declared.types.SpinodalPlace.{SpinodalPlace}
@@ -30,26 +30,35 @@ use Rattle.solver_critical_step.specs.declared.types.SpinodalsPlace.{SpinodalsP
 use Rattle.solver_critical_step.specs.declared.types.SpinodalsPlace.the-variants as Spinodals
 use Rattle.solver_critical_step.specs.Stored.{criticalSpotNumbers, criticalNumbers, criticalSpotBy, criticalPlaceBy, hkmSpotBy, spinodalsNumbers, stabilitySpotBy, spinodalsSpotBy, spinodalsPlaceBy}
 use Rattle.solver_critical_step.proofs.Ranges.{asks-fits, critical-kept, critical-begin-fits, spinodals-kept, spinodals-begin-fits}
+use Rattle.solver_binary_step.specs.declared.types.TemperaturePlace.{TemperaturePlace}
+use Rattle.solver_binary_step.specs.declared.types.TemperaturePlace.the-variants as Temperature
+use Rattle.solver_binary_step.specs.declared.types.PressurePlace.{PressurePlace}
+use Rattle.solver_binary_step.specs.declared.types.PressurePlace.the-variants as Pressure
+use Rattle.solver_binary_step.specs.Stored.{temperatureNumbers, temperatureSpotBy, temperaturePlaceBy, pressureNumbers, pressureSpotBy, pressurePlaceBy}
+use Rattle.solver_binary_step.proofs.Ranges as Binary
 use Rattle.solver_state.specs.declared.types.Job.{Job}
-use Rattle.solver_state.specs.declared.types.Job.the-variants.{Density, StableDensity, PressureSpinodal, BranchSpinodal, CriticalPoint, StabilitySpinodals}
+use Rattle.solver_state.specs.declared.types.Job.the-variants.{Density, StableDensity, PressureSpinodal, BranchSpinodal, CriticalPoint, StabilitySpinodals, CriticalPointBinaryT, CriticalPointBinaryP}
 use Rattle.solver_state.specs.declared.types.State.{State}
-use Rattle.solver_state.specs.State.{beginOf, startOf, densityStep, stableStep, spinodalStep, branchStep, criticalStep, spinodalsStep, stepOf}
+use Rattle.solver_state.specs.State.{mostRounds, beginOf, startOf, densityStep, stableStep, spinodalStep, branchStep, criticalStep, spinodalsStep, temperatureStep, pressureStep, stepOf}
 
 -- by a test
+cond-below : {S : Type 0} (most : ℕ) (numbers : S → Numbers) (b : Bool) (x y : S) → FitsBelow most (numbers x) → FitsBelow most (numbers y) → FitsBelow most (numbers (cond b x y))
+cond-below most numbers true x y p q = p
+cond-below most numbers false x y p q = q
+
 cond-fits : {S : Type 0} (numbers : S → Numbers) (b : Bool) (x y : S) → Fits (numbers x) → Fits (numbers y) → Fits (numbers (cond b x y))
-cond-fits numbers true x y p q = p
-cond-fits numbers false x y p q = q
+cond-fits numbers b x y p q = cond-below 50 numbers b x y p q
 
 -- ---- what is read from counters within their ranges is stored within them
 module _ (n : Numbers) (h : Fits n) where
-  abbrev b : Below (n .counters)
-  b = below (n .counters) h
+  abbrev b : Below 50 (n .counters)
+  b = below 50 (n .counters) h
 
   spinodal-read : Fits (spinodalNumbers (spinodalPlaceBy n))
   unfolding spinodalPlaceBy spinodalNumbers spinodalSpotBy spotNumbers statusFits
   spinodal-read =
       cond-fits spinodalNumbers (eqb (n .counters .tag) 0) _ _ (ended-fits _)
-      (fits _ (record { stage = omega arith; tag = omega arith; status = refl; left = omega arith; way = omega arith; rounds = b .rounds }))
+      (fits 50 _ (record { stage = omega arith; tag = omega arith; status = refl; left = omega arith; way = omega arith; rounds = b .rounds }))
 
   -- a density search's spot, in a stage of kind 2 or in kind 1
   module _ (stage status : ℕ) (z : Float) (g : stage < 5) (st : statusFits status ≡ true) where
@@ -102,6 +111,15 @@ module _ (n : Numbers) (h : Fits n) where
       asking : SpinodalsSpot → Numbers
       asking x = spinodalsNumbers (Spinodals.At x)
 
+module _ (n : Numbers) (h : FitsBelow 200 n) where
+  temperature-read : FitsBelow 200 (temperatureNumbers (temperaturePlaceBy n))
+  unfolding temperaturePlaceBy temperatureSpotBy temperatureNumbers
+  temperature-read = cond-below 200 temperatureNumbers (eqb (n .counters .tag) 0) _ _ (ended-below 200 _ (omega arith)) (Binary.asks-fits (n .counters .rounds) _ _ _ (below 200 (n .counters) h .rounds))
+
+  pressure-read : FitsBelow 200 (pressureNumbers (pressurePlaceBy n))
+  unfolding pressurePlaceBy pressureSpotBy pressureNumbers
+  pressure-read = cond-below 200 pressureNumbers (eqb (n .counters .tag) 0) _ _ (ended-below 200 _ (omega arith)) (Binary.asks-fits (n .counters .rounds) _ _ _ (below 200 (n .counters) h .rounds))
+
 -- ---- a step
 module _ (ev : Evaluator) (s : State) (h : Fits (s .numbers)) where
   density-fits : (c : Conditions) (p : DensityPlace) → densityPlaceBy (s .numbers) ≡ p → Fits (densityStep c ev p s .numbers)
@@ -134,22 +152,37 @@ module _ (ev : Evaluator) (s : State) (h : Fits (s .numbers)) where
   spinodals-fits maxdensity t (Spinodals.Ended a) e = h
   spinodals-fits maxdensity t (Spinodals.At x) e = spinodals-kept maxdensity t ev x (subst (λ (p : SpinodalsPlace). Fits (spinodalsNumbers p)) e (spinodals-read (s .numbers) h))
 
+module _ (ev : Evaluator) (s : State) (h : FitsBelow 200 (s .numbers)) where
+  temperature-fits : (maxdensity t : Float) (p : TemperaturePlace) → temperaturePlaceBy (s .numbers) ≡ p → FitsBelow 200 (temperatureStep maxdensity t ev p s .numbers)
+  unfolding temperatureStep
+  temperature-fits maxdensity t (Temperature.Ended a) e = h
+  temperature-fits maxdensity t (Temperature.At x) e = Binary.temperature-kept maxdensity t ev x (subst (λ (p : TemperaturePlace). FitsBelow 200 (temperatureNumbers p)) e (temperature-read (s .numbers) h))
+
+  pressure-fits : (maxdensity pressure : Float) (p : PressurePlace) → pressurePlaceBy (s .numbers) ≡ p → FitsBelow 200 (pressureStep maxdensity pressure ev p s .numbers)
+  unfolding pressureStep
+  pressure-fits maxdensity pressure (Pressure.Ended a) e = h
+  pressure-fits maxdensity pressure (Pressure.At x) e = Binary.pressure-kept maxdensity pressure ev x (subst (λ (p : PressurePlace). FitsBelow 200 (pressureNumbers p)) e (pressure-read (s .numbers) h))
+
 -- a step keeps the ranges
-pub ranges-kept : (job : Job) (ev : Evaluator) (s : State) → Fits (s .numbers) → Fits (stepOf job ev s .numbers)
-unfolding stepOf
+pub ranges-kept : (job : Job) (ev : Evaluator) (s : State) → FitsBelow (mostRounds job) (s .numbers) → FitsBelow (mostRounds job) (stepOf job ev s .numbers)
+unfolding mostRounds stepOf
 ranges-kept (Density c) ev s h = density-fits ev s h c _ refl
 ranges-kept (StableDensity maxdensity t p) ev s h = stable-fits ev s h maxdensity t p _ refl
 ranges-kept (PressureSpinodal maxdensity t ρ) ev s h = spinodal-fits ev s h maxdensity t _ refl
 ranges-kept (BranchSpinodal maxdensity t branch) ev s h = branch-fits ev s h maxdensity t branch _ refl
 ranges-kept (CriticalPoint maxdensity temperature density) ev s h = critical-fits ev s h maxdensity _ _ refl
 ranges-kept (StabilitySpinodals maxdensity t) ev s h = spinodals-fits ev s h maxdensity t _ refl
+ranges-kept (CriticalPointBinaryT maxdensity z0 z1 t density) ev s h = temperature-fits ev s h maxdensity t _ refl
+ranges-kept (CriticalPointBinaryP maxdensity z0 z1 pressure temperature density) ev s h = pressure-fits ev s h maxdensity pressure _ refl
 
 -- a search begins within them
-pub starts-in-ranges : (job : Job) → Fits (startOf job .numbers)
-unfolding startOf beginOf
+pub starts-in-ranges : (job : Job) → FitsBelow (mostRounds job) (startOf job .numbers)
+unfolding mostRounds startOf beginOf
 starts-in-ranges (Density c) = density-begin-fits c
 starts-in-ranges (StableDensity maxdensity t p) = stable-begin-fits maxdensity t p
 starts-in-ranges (PressureSpinodal maxdensity t ρ) = spinodal-start-fits ρ
 starts-in-ranges (BranchSpinodal maxdensity t branch) = branch-begin-fits maxdensity branch
 starts-in-ranges (CriticalPoint maxdensity temperature density) = critical-begin-fits _ temperature
 starts-in-ranges (StabilitySpinodals maxdensity t) = spinodals-begin-fits maxdensity
+starts-in-ranges (CriticalPointBinaryT maxdensity z0 z1 t density) = Binary.temperature-begin-fits maxdensity z0 z1 density
+starts-in-ranges (CriticalPointBinaryP maxdensity z0 z1 pressure temperature density) = Binary.pressure-begin-fits maxdensity z0 z1 temperature density

@@ -12,6 +12,7 @@ use Rattle.solver_density.proofs.Spans.{spinodal-30, branch-30, search-3101, st
 use Rattle.solver_critical.specs.declared.types.Start.{Start}
 use Rattle.solver_critical.specs.CriticalPoint.{startDensity}
 use Rattle.solver_critical.proofs.Spans.{critical-150, spinodal-250}
+use Rattle.solver_binary.proofs.Spans.{temperature-200, pressure-200}
 use Rattle.solver_step.specs.declared.types.SpinodalPlace.{SpinodalPlace}
 use Rattle.solver_step.specs.declared.types.SpinodalPlace.the-variants as Spinodal
 use Rattle.solver_step.specs.declared.types.DensityPlace.{DensityPlace}
@@ -36,10 +37,18 @@ use Rattle.solver_critical_step.specs.Stored.{criticalNumbers, criticalPlaceBy,
 use Rattle.solver_critical_step.proofs.CriticalLaw.{critical-law, critical-begins}
 use Rattle.solver_critical_step.proofs.SpinodalsLaw.{spinodals-law, spinodals-begins}
 use Rattle.solver_critical_step.proofs.StoredBack.{critical-back, spinodals-back}
+use Rattle.solver_binary_step.specs.declared.types.TemperaturePlace.{TemperaturePlace}
+use Rattle.solver_binary_step.specs.declared.types.TemperaturePlace.the-variants as Temperature
+use Rattle.solver_binary_step.specs.declared.types.PressurePlace.{PressurePlace}
+use Rattle.solver_binary_step.specs.declared.types.PressurePlace.the-variants as Pressure
+use Rattle.solver_binary_step.specs.BinaryStep.{temperatureLeft, temperatureAt, temperatureBegin, pressureLeft, pressureAt, pressureBegin}
+use Rattle.solver_binary_step.specs.Stored.{temperatureNumbers, temperaturePlaceBy, pressureNumbers, pressurePlaceBy}
+use Rattle.solver_binary_step.proofs.BinaryLaw.{temperature-law, temperature-begins, pressure-law, pressure-begins}
+use Rattle.solver_binary_step.proofs.StoredBack.{temperature-back, pressure-back}
 use Rattle.solver_state.specs.declared.types.Job.{Job}
-use Rattle.solver_state.specs.declared.types.Job.the-variants.{Density, StableDensity, PressureSpinodal, BranchSpinodal, CriticalPoint, StabilitySpinodals}
+use Rattle.solver_state.specs.declared.types.Job.the-variants.{Density, StableDensity, PressureSpinodal, BranchSpinodal, CriticalPoint, StabilitySpinodals, CriticalPointBinaryT, CriticalPointBinaryP}
 use Rattle.solver_state.specs.declared.types.State.{State}
-use Rattle.solver_state.specs.State.{searchOf, spanOf, leftOf, going, beginOf, startOf, densityStep, stableStep, spinodalStep, branchStep, criticalStep, spinodalsStep, stepOf}
+use Rattle.solver_state.specs.State.{searchOf, spanOf, leftOf, going, beginOf, startOf, densityStep, stableStep, spinodalStep, branchStep, criticalStep, spinodalsStep, temperatureStep, pressureStep, stepOf}
 
 -- a place that is stored and read back, in what is left of the search
 kept : {P : Type 0} (left : P → Search) (by : Numbers → P) (numbers : P → Numbers) → ((p : P) → by (numbers p) ≡ p) → (n : ℕ) (ρ : Float) (p : P) (t : Going)
@@ -99,6 +108,19 @@ module _ (ev : Evaluator) (s : State) where
     spinodals-step (Spinodals.Ended a) e = stays (spinodalsLeft maxdensity t) s _ (Spinodals.Ended a) e
     spinodals-step (Spinodals.At x) e = kept (spinodalsLeft maxdensity t) spinodalsPlaceBy spinodalsNumbers spinodals-back n (spinodalsAt x) _ _ (spinodals-law maxdensity t ev x n d)
 
+  module _ (maxdensity z0 z1 : Float) where
+    temperature-step : (t : Float) (density : Start) (p : TemperaturePlace) → temperaturePlaceBy (s .numbers) ≡ p
+        → going (CriticalPointBinaryT maxdensity z0 z1 t density) (temperatureStep maxdensity t ev p s) ≡ nextOf finiteOf ev (temperatureLeft maxdensity t p) n d
+    unfolding going leftOf temperatureStep temperatureLeft nextOf
+    temperature-step t density (Temperature.Ended a) e = stays (temperatureLeft maxdensity t) s _ (Temperature.Ended a) e
+    temperature-step t density (Temperature.At x) e = kept (temperatureLeft maxdensity t) temperaturePlaceBy temperatureNumbers temperature-back n (temperatureAt x) _ _ (temperature-law maxdensity t ev x n d)
+
+    pressure-step : (pressure : Float) (temperature density : Start) (p : PressurePlace) → pressurePlaceBy (s .numbers) ≡ p
+        → going (CriticalPointBinaryP maxdensity z0 z1 pressure temperature density) (pressureStep maxdensity pressure ev p s) ≡ nextOf finiteOf ev (pressureLeft maxdensity pressure p) n d
+    unfolding going leftOf pressureStep pressureLeft nextOf
+    pressure-step pressure temperature density (Pressure.Ended a) e = stays (pressureLeft maxdensity pressure) s _ (Pressure.Ended a) e
+    pressure-step pressure temperature density (Pressure.At x) e = kept (pressureLeft maxdensity pressure) pressurePlaceBy pressureNumbers pressure-back n (pressureAt x) _ _ (pressure-law maxdensity pressure ev x n d)
+
 -- the step makes the evaluation that the search left asks for, with the tests that follow it
 pub step-law : (job : Job) (ev : Evaluator) (s : State) → going job (stepOf job ev s) ≡ next finiteOf ev (going job s)
 unfolding stepOf going leftOf
@@ -108,6 +130,8 @@ step-law (PressureSpinodal maxdensity t ρ) ev s = spinodal-step ev s maxdensity
 step-law (BranchSpinodal maxdensity t branch) ev s = branch-step ev s maxdensity t branch _ refl
 step-law (CriticalPoint maxdensity temperature density) ev s = critical-step ev s maxdensity temperature density _ refl
 step-law (StabilitySpinodals maxdensity t) ev s = spinodals-step ev s maxdensity t _ refl
+step-law (CriticalPointBinaryT maxdensity z0 z1 t density) ev s = temperature-step ev s maxdensity z0 z1 t density _ refl
+step-law (CriticalPointBinaryP maxdensity z0 z1 pressure temperature density) ev s = pressure-step ev s maxdensity z0 z1 pressure temperature density _ refl
 
 -- a search begins with its tree
 pub begins : (job : Job) → leftOf job (beginOf job) ≡ settled (searchOf job)
@@ -119,6 +143,9 @@ begins (BranchSpinodal maxdensity t branch) = ap (branchLeft maxdensity t branch
 begins (CriticalPoint maxdensity temperature density) =
     ap (criticalLeft maxdensity (startDensity maxdensity density)) (critical-back (criticalBegin (startDensity maxdensity density) temperature)) ∙ critical-begins maxdensity temperature density
 begins (StabilitySpinodals maxdensity t) = ap (spinodalsLeft maxdensity t) (spinodals-back (spinodalsBegin maxdensity)) ∙ spinodals-begins maxdensity t
+begins (CriticalPointBinaryT maxdensity z0 z1 t density) = ap (temperatureLeft maxdensity t) (temperature-back (temperatureBegin maxdensity z0 z1 density)) ∙ temperature-begins maxdensity t z0 z1 density
+begins (CriticalPointBinaryP maxdensity z0 z1 pressure temperature density) =
+    ap (pressureLeft maxdensity pressure) (pressure-back (pressureBegin maxdensity z0 z1 temperature density)) ∙ pressure-begins maxdensity pressure z0 z1 temperature density
 
 -- no search makes more evaluations than its span
 pub within-span : (job : Job) → Within (spanOf job) (searchOf job)
@@ -129,6 +156,8 @@ within-span (PressureSpinodal maxdensity t ρ) = spinodal-30 maxdensity t ρ
 within-span (BranchSpinodal maxdensity t branch) = branch-30 maxdensity t branch
 within-span (CriticalPoint maxdensity temperature density) = critical-150 maxdensity temperature density
 within-span (StabilitySpinodals maxdensity t) = spinodal-250 maxdensity t
+within-span (CriticalPointBinaryT maxdensity z0 z1 t density) = temperature-200 maxdensity z0 z1 t density
+within-span (CriticalPointBinaryP maxdensity z0 z1 pressure temperature density) = pressure-200 maxdensity z0 z1 pressure temperature density
 
 -- after k steps from its start a search stands where its definition does after k evaluations; from its span on it has the answer and the count of its run
 pub by-steps : (job : Job) (ev : Evaluator) → Stepped finiteOf ev (going job) (stepOf job ev) (step-law job ev) (searchOf job) (spanOf job) (startOf job)

@@ -11,6 +11,7 @@ use Rattle.solver_density.specs.Density.{densitySearch}
 use Rattle.solver_density.specs.Stable.{densityIterationStable}
 use Rattle.solver_critical.specs.CriticalPoint.{startDensity, criticalPoint}
 use Rattle.solver_critical.specs.Spinodal.{spinodal}
+use Rattle.solver_binary.specs.CriticalPointBinary.{criticalPointBinaryT, criticalPointBinaryP}
 use Rattle.solver_step.specs.declared.types.SpinodalPlace.{SpinodalPlace}
 use Rattle.solver_step.specs.declared.types.SpinodalPlace.the-variants as Spinodal
 use Rattle.solver_step.specs.declared.types.DensityPlace.{DensityPlace}
@@ -28,8 +29,14 @@ use Rattle.solver_critical_step.specs.declared.types.SpinodalsPlace.the-variant
 use Rattle.solver_critical_step.specs.CriticalStep.{criticalLeft, criticalAt, criticalNext, criticalBegin}
 use Rattle.solver_critical_step.specs.SpinodalsStep.{spinodalsLeft, spinodalsAt, spinodalsNext, spinodalsBegin}
 use Rattle.solver_critical_step.specs.Stored.{criticalNumbers, criticalPlaceBy, spinodalsNumbers, spinodalsPlaceBy}
+use Rattle.solver_binary_step.specs.declared.types.TemperaturePlace.{TemperaturePlace}
+use Rattle.solver_binary_step.specs.declared.types.TemperaturePlace.the-variants as Temperature
+use Rattle.solver_binary_step.specs.declared.types.PressurePlace.{PressurePlace}
+use Rattle.solver_binary_step.specs.declared.types.PressurePlace.the-variants as Pressure
+use Rattle.solver_binary_step.specs.BinaryStep.{temperatureLeft, temperatureAt, temperatureNext, temperatureBegin, pressureLeft, pressureAt, pressureNext, pressureBegin}
+use Rattle.solver_binary_step.specs.Stored.{temperatureNumbers, temperaturePlaceBy, pressureNumbers, pressurePlaceBy}
 use Rattle.solver_state.specs.declared.types.Job.{Job}
-use Rattle.solver_state.specs.declared.types.Job.the-variants.{Density, StableDensity, PressureSpinodal, BranchSpinodal, CriticalPoint, StabilitySpinodals}
+use Rattle.solver_state.specs.declared.types.Job.the-variants.{Density, StableDensity, PressureSpinodal, BranchSpinodal, CriticalPoint, StabilitySpinodals, CriticalPointBinaryT, CriticalPointBinaryP}
 use Rattle.solver_state.specs.declared.types.State.{State}
 
 -- the search of each kind
@@ -40,6 +47,8 @@ searchOf (PressureSpinodal maxdensity t ρ) = pressureSpinodal maxdensity t ρ
 searchOf (BranchSpinodal maxdensity t branch) = pressureSpinodalBranch maxdensity t branch
 searchOf (CriticalPoint maxdensity temperature density) = criticalPoint maxdensity temperature density
 searchOf (StabilitySpinodals maxdensity t) = spinodal maxdensity t
+searchOf (CriticalPointBinaryT maxdensity z0 z1 t density) = criticalPointBinaryT maxdensity z0 z1 t density
+searchOf (CriticalPointBinaryP maxdensity z0 z1 pressure temperature density) = criticalPointBinaryP maxdensity z0 z1 pressure temperature density
 
 -- "Kind, span"
 unfoldable pub spanOf : Job → ℕ
@@ -49,6 +58,19 @@ spanOf (PressureSpinodal maxdensity t ρ) = 30
 spanOf (BranchSpinodal maxdensity t branch) = 30
 spanOf (CriticalPoint maxdensity temperature density) = 150
 spanOf (StabilitySpinodals maxdensity t) = 250
+spanOf (CriticalPointBinaryT maxdensity z0 z1 t density) = 200
+spanOf (CriticalPointBinaryP maxdensity z0 z1 pressure temperature density) = 200
+
+-- the stored rounds of a search are below this, which is `roundsOf` of its kinds
+unfoldable pub mostRounds : Job → ℕ
+mostRounds (Density c) = 50
+mostRounds (StableDensity maxdensity t p) = 50
+mostRounds (PressureSpinodal maxdensity t ρ) = 50
+mostRounds (BranchSpinodal maxdensity t branch) = 50
+mostRounds (CriticalPoint maxdensity temperature density) = 50
+mostRounds (StabilitySpinodals maxdensity t) = 50
+mostRounds (CriticalPointBinaryT maxdensity z0 z1 t density) = 200
+mostRounds (CriticalPointBinaryP maxdensity z0 z1 pressure temperature density) = 200
 
 -- the search that is left where the numbers stand
 unfoldable pub leftOf : Job → Numbers → Search
@@ -58,6 +80,8 @@ leftOf (PressureSpinodal maxdensity t ρ) n = spinodalLeft maxdensity t (spinoda
 leftOf (BranchSpinodal maxdensity t branch) n = branchLeft maxdensity t branch (spinodalPlaceBy n)
 leftOf (CriticalPoint maxdensity temperature density) n = criticalLeft maxdensity (startDensity maxdensity density) (criticalPlaceBy n)
 leftOf (StabilitySpinodals maxdensity t) n = spinodalsLeft maxdensity t (spinodalsPlaceBy n)
+leftOf (CriticalPointBinaryT maxdensity z0 z1 t density) n = temperatureLeft maxdensity t (temperaturePlaceBy n)
+leftOf (CriticalPointBinaryP maxdensity z0 z1 pressure temperature density) n = pressureLeft maxdensity pressure (pressurePlaceBy n)
 
 -- a state as a search under way
 unfoldable pub going : Job → State → Going
@@ -71,6 +95,8 @@ beginOf (PressureSpinodal maxdensity t ρ) = spinodalNumbers (spinodalStart ρ)
 beginOf (BranchSpinodal maxdensity t branch) = spinodalNumbers (branchBegin maxdensity branch)
 beginOf (CriticalPoint maxdensity temperature density) = criticalNumbers (criticalBegin (startDensity maxdensity density) temperature)
 beginOf (StabilitySpinodals maxdensity t) = spinodalsNumbers (spinodalsBegin maxdensity)
+beginOf (CriticalPointBinaryT maxdensity z0 z1 t density) = temperatureNumbers (temperatureBegin maxdensity z0 z1 density)
+beginOf (CriticalPointBinaryP maxdensity z0 z1 pressure temperature density) = pressureNumbers (pressureBegin maxdensity z0 z1 temperature density)
 
 unfoldable pub startOf : Job → State
 startOf job = record { numbers = beginOf job; evaluations = 0; latest = f0 }
@@ -105,6 +131,14 @@ unfoldable pub spinodalsStep : (maxdensity t : Float) → Evaluator → Spinodal
 spinodalsStep maxdensity t ev (Spinodals.Ended a) s = s
 spinodalsStep maxdensity t ev (Spinodals.At x) s = steppedTo (spinodalsNumbers (spinodalsNext maxdensity t ev x)) (spinodalsAt x) s
 
+unfoldable pub temperatureStep : (maxdensity t : Float) → Evaluator → TemperaturePlace → State → State
+temperatureStep maxdensity t ev (Temperature.Ended a) s = s
+temperatureStep maxdensity t ev (Temperature.At x) s = steppedTo (temperatureNumbers (temperatureNext maxdensity t ev x)) (temperatureAt x) s
+
+unfoldable pub pressureStep : (maxdensity pressure : Float) → Evaluator → PressurePlace → State → State
+pressureStep maxdensity pressure ev (Pressure.Ended a) s = s
+pressureStep maxdensity pressure ev (Pressure.At x) s = steppedTo (pressureNumbers (pressureNext maxdensity pressure ev x)) (pressureAt x) s
+
 unfoldable pub stepOf : Job → Evaluator → State → State
 stepOf (Density c) ev s = densityStep c ev (densityPlaceBy (s .numbers)) s
 stepOf (StableDensity maxdensity t p) ev s = stableStep maxdensity t p ev (stablePlaceBy (s .numbers)) s
@@ -112,3 +146,5 @@ stepOf (PressureSpinodal maxdensity t ρ) ev s = spinodalStep maxdensity t ev (s
 stepOf (BranchSpinodal maxdensity t branch) ev s = branchStep maxdensity t branch ev (spinodalPlaceBy (s .numbers)) s
 stepOf (CriticalPoint maxdensity temperature density) ev s = criticalStep maxdensity (startDensity maxdensity density) ev (criticalPlaceBy (s .numbers)) s
 stepOf (StabilitySpinodals maxdensity t) ev s = spinodalsStep maxdensity t ev (spinodalsPlaceBy (s .numbers)) s
+stepOf (CriticalPointBinaryT maxdensity z0 z1 t density) ev s = temperatureStep maxdensity t ev (temperaturePlaceBy (s .numbers)) s
+stepOf (CriticalPointBinaryP maxdensity z0 z1 pressure temperature density) ev s = pressureStep maxdensity pressure ev (pressurePlaceBy (s .numbers)) s

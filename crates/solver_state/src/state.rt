@@ -4,11 +4,14 @@ ghost use Prim.Native.Nat.{_<_};
 ghost use Rattle.solver.specs.Evaluated.{evaluated};
 ghost use Rattle.solver_step.specs.Stored.{densityPlaceBy, stablePlaceBy, spinodalPlaceBy};
 ghost use Rattle.solver_critical_step.specs.Stored.{criticalPlaceBy, spinodalsPlaceBy};
-ghost use Rattle.solver_state.specs.State.{beginOf, startOf, densityStep, stableStep, spinodalStep, branchStep, criticalStep, spinodalsStep, stepOf};
+ghost use Rattle.solver_binary_step.specs.Stored.{temperaturePlaceBy, pressurePlaceBy};
+ghost use Rattle.solver_state.specs.State.{beginOf, startOf, densityStep, stableStep, spinodalStep, branchStep, criticalStep, spinodalsStep, temperatureStep, pressureStep, stepOf};
 use crate::types::Job;
 use crate::types::State;
 use eos::Blend;
 use solver::Numbers;
+use solver_binary_step::PressurePlace;
+use solver_binary_step::TemperaturePlace;
 use solver_critical_step::CriticalPlace;
 use solver_critical_step::SpinodalsPlace;
 use solver_density::Branch;
@@ -55,6 +58,33 @@ fn begin(job: Job) -> Numbers
         } => {
             let place = solver_critical_step::spinodals_begin(maxdensity);
             solver_critical_step::spinodals_numbers(place)
+        }
+        Job::CriticalPointBinaryT {
+            maxdensity,
+            z0,
+            z1,
+            temperature: _,
+            density,
+        } => {
+            let place = solver_binary_step::temperature_begin(maxdensity, z0, z1, density);
+            solver_binary_step::temperature_numbers(place)
+        }
+        Job::CriticalPointBinaryP {
+            maxdensity,
+            z0,
+            z1,
+            pressure: _,
+            temperature,
+            density,
+        } => {
+            let place = solver_binary_step::pressure_begin(
+                maxdensity,
+                z0,
+                z1,
+                temperature,
+                density,
+            );
+            solver_binary_step::pressure_numbers(place)
         }
     }
 }
@@ -181,6 +211,44 @@ fn spinodals_step(blend: Blend, maxdensity: f64, t: f64, state: State) -> State
     }
 }
 
+fn temperature_step(blend: Blend, maxdensity: f64, t: f64, state: State) -> State
+    requires { ⌜ state .evaluations < 0xffff_ffff_ffff_ffff ⌝ }
+    ensures { λ r. ⌜ r ≡ temperatureStep maxdensity t (evaluated blend) (temperaturePlaceBy (state .numbers)) state ⌝ }
+{
+    let numbers = state.numbers;
+    let place = solver_binary_step::temperature_place_by(numbers);
+    match place {
+        TemperaturePlace::Ended(_) => state,
+        TemperaturePlace::At(spot) => {
+            let next = solver_binary_step::temperature_next(blend, maxdensity, t, spot);
+            State {
+                numbers: solver_binary_step::temperature_numbers(next),
+                evaluations: state.evaluations + 1,
+                latest: solver_binary_step::temperature_at(spot),
+            }
+        }
+    }
+}
+
+fn pressure_step(blend: Blend, maxdensity: f64, pressure: f64, state: State) -> State
+    requires { ⌜ state .evaluations < 0xffff_ffff_ffff_ffff ⌝ }
+    ensures { λ r. ⌜ r ≡ pressureStep maxdensity pressure (evaluated blend) (pressurePlaceBy (state .numbers)) state ⌝ }
+{
+    let numbers = state.numbers;
+    let place = solver_binary_step::pressure_place_by(numbers);
+    match place {
+        PressurePlace::Ended(_) => state,
+        PressurePlace::At(spot) => {
+            let next = solver_binary_step::pressure_next(blend, maxdensity, pressure, spot);
+            State {
+                numbers: solver_binary_step::pressure_numbers(next),
+                evaluations: state.evaluations + 1,
+                latest: solver_binary_step::pressure_at(spot),
+            }
+        }
+    }
+}
+
 // One evaluation, or none at the end. The count must not be the last of its type.
 pub fn step(blend: Blend, job: Job, state: State) -> State
     requires { ⌜ state .evaluations < 0xffff_ffff_ffff_ffff ⌝ }
@@ -215,5 +283,20 @@ pub fn step(blend: Blend, job: Job, state: State) -> State
             maxdensity,
             temperature,
         } => spinodals_step(blend, maxdensity, temperature, state),
+        Job::CriticalPointBinaryT {
+            maxdensity,
+            z0: _,
+            z1: _,
+            temperature,
+            density: _,
+        } => temperature_step(blend, maxdensity, temperature, state),
+        Job::CriticalPointBinaryP {
+            maxdensity,
+            z0: _,
+            z1: _,
+            pressure,
+            temperature: _,
+            density: _,
+        } => pressure_step(blend, maxdensity, pressure, state),
     }
 }

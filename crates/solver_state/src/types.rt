@@ -4,7 +4,7 @@ use solver_critical::Start;
 use solver_density::Branch;
 use solver_density::Conditions;
 
-// What the search of each kind works with beside the blend.
+// What the search of each kind works with beside the blend, z0 and z1 being the fractions.
 pub enum Job {
     Density(Conditions),
     StableDensity {
@@ -30,6 +30,21 @@ pub enum Job {
     StabilitySpinodals {
         maxdensity: f64,
         temperature: f64,
+    },
+    CriticalPointBinaryT {
+        maxdensity: f64,
+        z0: f64,
+        z1: f64,
+        temperature: f64,
+        density: Start,
+    },
+    CriticalPointBinaryP {
+        maxdensity: f64,
+        z0: f64,
+        z1: f64,
+        pressure: f64,
+        temperature: Start,
+        density: Start,
     },
 }
 

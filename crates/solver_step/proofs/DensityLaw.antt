@@ -139,9 +139,9 @@ module _ (c : Conditions) where
   -- ---- the law
   pub density-law : (ev : Evaluator) (s : DensitySpot) (n : ℕ) (d : Float) → nextOf finiteOf ev (resumeDensity c s) n d ≡ moved n (densityAt c s) (densityLeft c (densityNext c ev s))
   unfolding nextOf resumeDensity densityAt densityNext firstRound densityFrom unstable bind
-  density-law ev First n d = ap (moved n (c .start)) (slope-led c (c .start) (ev slope (c .temperature) (c .start)) _ (densityFrom c 49) ∙ sym (first-on _))
-  density-law ev (Slope m ρ) n d = ap (moved n ρ) (slope-led c ρ (ev slope (c .temperature) ρ) _ (densityFrom c m) ∙ sym (slope-on m ρ _))
-  density-law ev (Curvature m ρ error) n d = ap (moved n ρ) (sym (curvature-on m ρ error (ev curvature (c .temperature) ρ)))
+  density-law ev First n d = ap (moved n (c .start)) (slope-led c (c .start) (ev (slope (c .temperature) (c .start))) _ (densityFrom c 49) ∙ sym (first-on _))
+  density-law ev (Slope m ρ) n d = ap (moved n ρ) (slope-led c ρ (ev (slope (c .temperature) ρ)) _ (densityFrom c m) ∙ sym (slope-on m ρ _))
+  density-law ev (Curvature m ρ error) n d = ap (moved n ρ) (sym (curvature-on m ρ error (ev (curvature (c .temperature) ρ))))
   density-law ev (NearestSpinodal m way s) n d =
       next-bind2 ev (resumeSpinodal (c .maxdensity) (c .temperature) s) (byNearest way) (on m) n d _ (s .rho) (spinodal-law (c .maxdensity) (c .temperature) ev s n d)
       ∙ ap (moved n (s .rho)) (sym (nearest-on m way _))

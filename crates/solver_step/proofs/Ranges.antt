@@ -178,7 +178,7 @@ both-below AboveConcave = omega arith
 module _ (stage status : ℕ) (z : Float) (g : stage < 5) (st : statusFits status ≡ true) where
   pub asks : (tag left way rounds : ℕ) (x y : Float) → tag < 7 → left < 50 → way < 4 → rounds < 50 → Fits (staged stage status z (spotNumbers tag left way rounds x y))
   unfolding staged spotNumbers
-  asks tag left way rounds x y t l w r = fits _ (record { stage = g; tag = t; status = st; left = l; way = w; rounds = r })
+  asks tag left way rounds x y t l w r = fits 50 _ (record { stage = g; tag = t; status = st; left = l; way = w; rounds = r })
 
   spot-fits : (s : DensitySpot) → Bounded (Density.At s) → Fits (staged stage status z (densitySpotNumbers s))
   unfolding densitySpotNumbers
@@ -192,21 +192,21 @@ module _ (stage status : ℕ) (z : Float) (g : stage < 5) (st : statusFits statu
   spot-within : (s : DensitySpot) → Fits (staged stage status z (densitySpotNumbers s)) → Bounded (Density.At s)
   unfolding densitySpotNumbers staged spotNumbers
   spot-within First e = Bounded.first
-  spot-within (Slope n ρ) e = Bounded.slope (below _ e .left)
-  spot-within (Curvature n ρ error) e = Bounded.curvature (below _ e .left)
-  spot-within (NearestSpinodal n way s) e = Bounded.nearest (below _ e .left) (below _ e .rounds)
-  spot-within (LiquidSpinodal n way s) e = Bounded.inLiquid (below _ e .left) (below _ e .rounds)
-  spot-within (VaporSpinodal n way ρl s) e = Bounded.inVapor (below _ e .left) (below _ e .rounds)
+  spot-within (Slope n ρ) e = Bounded.slope (below 50 _ e .left)
+  spot-within (Curvature n ρ error) e = Bounded.curvature (below 50 _ e .left)
+  spot-within (NearestSpinodal n way s) e = Bounded.nearest (below 50 _ e .left) (below 50 _ e .rounds)
+  spot-within (LiquidSpinodal n way s) e = Bounded.inLiquid (below 50 _ e .left) (below 50 _ e .rounds)
+  spot-within (VaporSpinodal n way ρl s) e = Bounded.inVapor (below 50 _ e .left) (below 50 _ e .rounds)
 
 -- ---- kinds 3 and 4
 spinodal-fits : (p : SpinodalPlace) → Few p → Fits (spinodalNumbers p)
 unfolding spinodalNumbers spotNumbers statusFits
 spinodal-fits (Spinodal.Ended a) f = ended-fits a
-spinodal-fits (Spinodal.At s) (Few.at l) = fits _ (record { stage = omega arith; tag = omega arith; status = refl; left = omega arith; way = omega arith; rounds = l })
+spinodal-fits (Spinodal.At s) (Few.at l) = fits 50 _ (record { stage = omega arith; tag = omega arith; status = refl; left = omega arith; way = omega arith; rounds = l })
 
 spinodal-few : (s : SpinodalSpot) → Fits (spinodalNumbers (Spinodal.At s)) → s .rounds < 50
 unfolding spinodalNumbers spotNumbers
-spinodal-few s e = below _ e .rounds
+spinodal-few s e = below 50 _ e .rounds
 
 module _ (maxdensity t : Float) (ev : Evaluator) (s : SpinodalSpot) (e : Fits (spinodalNumbers (Spinodal.At s))) where
   pub spinodal-kept : Fits (spinodalNumbers (spinodalNext maxdensity t ev s))
@@ -249,7 +249,7 @@ density-begin-fits c = density-fits _ (begin-within c)
 -- ---- kind 2
 pub potential-fits : (stage : ℕ) (x y z : Float) → stage < 5 → Fits (potentialNumbers stage x y z)
 unfolding potentialNumbers statusFits
-potential-fits stage x y z g = fits _ (record { stage = g; tag = omega arith; status = refl; left = omega arith; way = omega arith; rounds = omega arith })
+potential-fits stage x y z g = fits 50 _ (record { stage = g; tag = omega arith; status = refl; left = omega arith; way = omega arith; rounds = omega arith })
 
 phases-fit : (liquid vapor : Phase) → Fits (stableNumbers (phasesOn liquid vapor))
 unfolding phasesOn stableNumbers

@@ -32,7 +32,7 @@ module _ (maxdensity t : Float) where
       → nextOf finiteOf ev (resumeSpinodal maxdensity t s) n d ≡ moved n (s .rho) (spinodalLeft maxdensity t (spinodalNext maxdensity t ev s))
   unfolding nextOf resumeSpinodal spinodalFrom spinodalNext
   spinodal-law ev s n d =
-      ap (moved n (s .rho)) (round-led maxdensity (s .rho) (ev curvature t (s .rho)) (spinodalFrom maxdensity t (s .rounds)) ∙ sym (spinodal-on (s .rounds) _))
+      ap (moved n (s .rho)) (round-led maxdensity (s .rho) (ev (curvature t (s .rho))) (spinodalFrom maxdensity t (s .rounds)) ∙ sym (spinodal-on (s .rounds) _))
 
   pub spinodal-begins : (ρ : Float) → spinodalLeft maxdensity t (spinodalStart ρ) ≡ settled (pressureSpinodal maxdensity t ρ)
   unfolding spinodalLeft resumeSpinodal spinodalStart settle pressureSpinodal spinodalFrom

@@ -81,8 +81,8 @@ module _ (maxdensity t p : Float) where
   stable-law ev (VaporSearch liquid s) n d =
       next-bind finiteOf ev (resumeDensity (ofVapor maxdensity t p) s) (stablePhase t (phaseAnswer liquid)) n d _ (densityAt (ofVapor maxdensity t p) s) (density-law (ofVapor maxdensity t p) ev s n d)
       ∙ ap (moved n (densityAt (ofVapor maxdensity t p) s)) (sym (vapor-on liquid _))
-  stable-law ev (LiquidPotential l v) n d = ap (moved n l) (sym (liquid-potential-on l v (ev potential t l)))
-  stable-law ev (VaporPotential l v μl) n d = ap (moved n v) (sym (vapor-potential-on l v μl (ev potential t v)))
+  stable-law ev (LiquidPotential l v) n d = ap (moved n l) (sym (liquid-potential-on l v (ev (potential t l))))
+  stable-law ev (VaporPotential l v μl) n d = ap (moved n v) (sym (vapor-potential-on l v μl (ev (potential t v))))
 
   pub stable-begins : stableLeft maxdensity t p (stableBegin maxdensity t p) ≡ settled (densityIterationStable maxdensity t p)
   unfolding stableBegin densityIterationStable densityIteration

@@ -111,9 +111,9 @@ module _ (c : Conditions) where
 
   -- the one evaluation, and where it leads
   unfoldable pub densityNext : Evaluator → DensitySpot → DensityPlace
-  densityNext ev First = firstOn (slopeRound c (c .start) (ev slope (c .temperature) (c .start)))
-  densityNext ev (Slope n ρ) = slopeOn n ρ (slopeRound c ρ (ev slope (c .temperature) ρ))
-  densityNext ev (Curvature n ρ error) = curvatureOn n ρ error (ev curvature (c .temperature) ρ)
+  densityNext ev First = firstOn (slopeRound c (c .start) (ev (slope (c .temperature) (c .start))))
+  densityNext ev (Slope n ρ) = slopeOn n ρ (slopeRound c ρ (ev (slope (c .temperature) ρ)))
+  densityNext ev (Curvature n ρ error) = curvatureOn n ρ error (ev (curvature (c .temperature) ρ))
   densityNext ev (NearestSpinodal n way s) = nearestOn n way (spinodalNext (c .maxdensity) (c .temperature) ev s)
   densityNext ev (LiquidSpinodal n way s) = liquidOn n way (branchNext (c .maxdensity) (c .temperature) Liquid ev s)
   densityNext ev (VaporSpinodal n way ρl s) = vaporOn n way ρl (branchNext (c .maxdensity) (c .temperature) Vapor ev s)

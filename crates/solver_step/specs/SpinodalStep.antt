@@ -38,7 +38,7 @@ module _ (maxdensity t : Float) where
 
   -- the one evaluation, and where it leads
   unfoldable pub spinodalNext : Evaluator → SpinodalSpot → SpinodalPlace
-  spinodalNext ev s = spinodalOn (s .rounds) (spinodalRound maxdensity (s .rho) (ev curvature t (s .rho)))
+  spinodalNext ev s = spinodalOn (s .rounds) (spinodalRound maxdensity (s .rho) (ev (curvature t (s .rho))))
 
 -- ---- kind 4: the same, with the branch's answer at the end
 

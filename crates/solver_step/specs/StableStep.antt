@@ -75,8 +75,8 @@ module _ (maxdensity t p : Float) where
   unfoldable pub stableNext : Evaluator → StableSpot → StablePlace
   stableNext ev (LiquidSearch s) = liquidSearchOn (densityNext ofLiquid ev s)
   stableNext ev (VaporSearch liquid s) = vaporSearchOn liquid (densityNext ofVapor ev s)
-  stableNext ev (LiquidPotential l v) = liquidPotentialOn l v (ev potential t l)
-  stableNext ev (VaporPotential l v μl) = vaporPotentialOn l v μl (ev potential t v)
+  stableNext ev (LiquidPotential l v) = liquidPotentialOn l v (ev (potential t l))
+  stableNext ev (VaporPotential l v μl) = vaporPotentialOn l v μl (ev (potential t v))
 
   -- where a search begins
   unfoldable pub stableBegin : StablePlace

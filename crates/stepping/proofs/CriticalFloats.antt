@@ -46,7 +46,6 @@ use Rattle.solver_state.specs.State.{beginOf, startOf, criticalStep, spinodalsS
 use Rattle.stepping.specs.Storable.{ValuesStorable, FloatsStorable}
 use Rattle.stepping.proofs.FloatLaws.{Fit, zero-fits, cond-keeps}
 
--- a value of binary64
 -- a start that is given fits
 abbrev pub StartFits : Start → Type 0
 StartFits Start.None = Unit {0}
@@ -57,20 +56,20 @@ unfolding maxOf
 max-held x y a b = cond-fits binary64 (isNan x || lt x y) y x b a
 
 -- the three floats of a place or an answer that has two
-abbrev Two : (x y : Float) → Type 0
+abbrev pub Two : (x y : Float) → Type 0
 Two x y = ValuesStorable (record { first = x; second = y; third = f0 })
 
-two : {x y : Float} → Fit x → Fit y → Two x y
+pub two : {x y : Float} → Fit x → Fit y → Two x y
 two a b = record { first = a; second = b; third = zero-fits }
 
-none : Two f0 f0
+pub none : Two f0 f0
 none = two zero-fits zero-fits
 
-abbrev AnswerHeld : Answer → Type 0
+abbrev pub AnswerHeld : Answer → Type 0
 AnswerHeld a = ValuesStorable (valuesOf a)
 
 -- ---- the rounds
-floored-held : (maxdensity ρ : Float) → Fit ρ → Fit (floored maxdensity ρ)
+pub floored-held : (maxdensity ρ : Float) → Fit ρ → Fit (floored maxdensity ρ)
 unfolding floored
 floored-held maxdensity ρ h = max-held ρ (d1e-4 ⊗ maxdensity) h (mul-fits binary64 d1e-4 maxdensity)
 

@@ -173,7 +173,7 @@ module _ (maxdensity t : Float) (ev : Evaluator) (yields : YieldsFit ev) (s : Sp
   spinodal-next-fits : SpinodalFits (spinodalNext maxdensity t ev s)
   unfolding spinodalNext
   spinodal-next-fits =
-      on-fits (s .rounds) _ (round-fits maxdensity (s .rho) (ev curvature t (s .rho)) h (yields .curvature-p t (s .rho)) (yields .curvature-second t (s .rho)))
+      on-fits (s .rounds) _ (round-fits maxdensity (s .rho) (ev (curvature t (s .rho))) h (yields .curvature-p t (s .rho)) (yields .curvature-second t (s .rho)))
 
   branch-next-fits : (branch : Branch) → SpinodalFits (branchNext maxdensity t branch ev s)
   unfolding branchNext

@@ -37,10 +37,18 @@ use Rattle.solver_critical_step.specs.Stored.{criticalNumbers, criticalPlaceBy,
 use Rattle.solver_critical_step.proofs.CriticalLaw.{critical-law}
 use Rattle.solver_critical_step.proofs.SpinodalsLaw.{spinodals-law}
 use Rattle.solver_critical_step.proofs.StoredBack.{critical-back, spinodals-back}
+use Rattle.solver_binary_step.specs.declared.types.TemperaturePlace.{TemperaturePlace}
+use Rattle.solver_binary_step.specs.declared.types.TemperaturePlace.the-variants as Temperature
+use Rattle.solver_binary_step.specs.declared.types.PressurePlace.{PressurePlace}
+use Rattle.solver_binary_step.specs.declared.types.PressurePlace.the-variants as Pressure
+use Rattle.solver_binary_step.specs.BinaryStep.{temperatureLeft, temperatureNext, temperatureBegin, pressureLeft, pressureNext, pressureBegin}
+use Rattle.solver_binary_step.specs.Stored.{temperatureNumbers, temperaturePlaceBy, pressureNumbers, pressurePlaceBy}
+use Rattle.solver_binary_step.proofs.BinaryLaw.{temperature-law, pressure-law}
+use Rattle.solver_binary_step.proofs.StoredBack.{temperature-back, pressure-back}
 use Rattle.solver_state.specs.declared.types.Job.{Job}
-use Rattle.solver_state.specs.declared.types.Job.the-variants.{Density, StableDensity, PressureSpinodal, BranchSpinodal, CriticalPoint, StabilitySpinodals}
+use Rattle.solver_state.specs.declared.types.Job.the-variants.{Density, StableDensity, PressureSpinodal, BranchSpinodal, CriticalPoint, StabilitySpinodals, CriticalPointBinaryT, CriticalPointBinaryP}
 use Rattle.solver_state.specs.declared.types.State.{State}
-use Rattle.solver_state.specs.State.{leftOf, beginOf, densityStep, stableStep, spinodalStep, branchStep, criticalStep, spinodalsStep, stepOf}
+use Rattle.solver_state.specs.State.{leftOf, beginOf, densityStep, stableStep, spinodalStep, branchStep, criticalStep, spinodalsStep, temperatureStep, pressureStep, stepOf}
 
 -- the numbers read as a place and stored again
 pub again : Job → Numbers → Numbers
@@ -50,6 +58,8 @@ again (PressureSpinodal maxdensity t ρ) n = spinodalNumbers (spinodalPlaceBy n)
 again (BranchSpinodal maxdensity t branch) n = spinodalNumbers (spinodalPlaceBy n)
 again (CriticalPoint maxdensity temperature density) n = criticalNumbers (criticalPlaceBy n)
 again (StabilitySpinodals maxdensity t) n = spinodalsNumbers (spinodalsPlaceBy n)
+again (CriticalPointBinaryT maxdensity z0 z1 t density) n = temperatureNumbers (temperaturePlaceBy n)
+again (CriticalPointBinaryP maxdensity z0 z1 p temperature density) n = pressureNumbers (pressurePlaceBy n)
 
 -- a search begins with the numbers of a place,
 pub begin-again : (job : Job) → again job (beginOf job) ≡ beginOf job
@@ -60,6 +70,8 @@ begin-again (PressureSpinodal maxdensity t ρ) = ap spinodalNumbers (spinodal-ba
 begin-again (BranchSpinodal maxdensity t branch) = ap spinodalNumbers (spinodal-back (branchBegin maxdensity branch))
 begin-again (CriticalPoint maxdensity temperature density) = ap criticalNumbers (critical-back (criticalBegin (startDensity maxdensity density) temperature))
 begin-again (StabilitySpinodals maxdensity t) = ap spinodalsNumbers (spinodals-back (spinodalsBegin maxdensity))
+begin-again (CriticalPointBinaryT maxdensity z0 z1 t density) = ap temperatureNumbers (temperature-back (temperatureBegin maxdensity z0 z1 density))
+begin-again (CriticalPointBinaryP maxdensity z0 z1 p temperature density) = ap pressureNumbers (pressure-back (pressureBegin maxdensity z0 z1 temperature density))
 
 -- and a step leads to the numbers of a place
 module _ (ev : Evaluator) (s : State) where
@@ -99,6 +111,18 @@ module _ (ev : Evaluator) (s : State) where
   spinodals-again maxdensity t (Spinodals.Ended a) h = h
   spinodals-again maxdensity t (Spinodals.At x) h = ap spinodalsNumbers (spinodals-back (spinodalsNext maxdensity t ev x))
 
+  temperature-again : (maxdensity t : Float) (p : TemperaturePlace) → temperatureNumbers (temperaturePlaceBy (s .numbers)) ≡ s .numbers
+      → temperatureNumbers (temperaturePlaceBy (temperatureStep maxdensity t ev p s .numbers)) ≡ temperatureStep maxdensity t ev p s .numbers
+  unfolding temperatureStep
+  temperature-again maxdensity t (Temperature.Ended a) h = h
+  temperature-again maxdensity t (Temperature.At x) h = ap temperatureNumbers (temperature-back (temperatureNext maxdensity t ev x))
+
+  pressure-again : (maxdensity pressure : Float) (p : PressurePlace) → pressureNumbers (pressurePlaceBy (s .numbers)) ≡ s .numbers
+      → pressureNumbers (pressurePlaceBy (pressureStep maxdensity pressure ev p s .numbers)) ≡ pressureStep maxdensity pressure ev p s .numbers
+  unfolding pressureStep
+  pressure-again maxdensity pressure (Pressure.Ended a) h = h
+  pressure-again maxdensity pressure (Pressure.At x) h = ap pressureNumbers (pressure-back (pressureNext maxdensity pressure ev x))
+
 pub step-again : (job : Job) (ev : Evaluator) (s : State) → again job (s .numbers) ≡ s .numbers → again job (stepOf job ev s .numbers) ≡ stepOf job ev s .numbers
 unfolding again stepOf
 step-again (Density c) ev s h = density-again ev s c _ h
@@ -107,6 +131,8 @@ step-again (PressureSpinodal maxdensity t ρ) ev s h = spinodal-again ev s maxde
 step-again (BranchSpinodal maxdensity t branch) ev s h = branch-again ev s maxdensity t branch _ h
 step-again (CriticalPoint maxdensity temperature density) ev s h = critical-again ev s maxdensity _ _ h
 step-again (StabilitySpinodals maxdensity t) ev s h = spinodals-again ev s maxdensity t _ h
+step-again (CriticalPointBinaryT maxdensity z0 z1 t density) ev s h = temperature-again ev s maxdensity t _ h
+step-again (CriticalPointBinaryP maxdensity z0 z1 p temperature density) ev s h = pressure-again ev s maxdensity p _ h
 
 -- ---- nothing is left of a search only at its end
 
@@ -148,6 +174,16 @@ module _ (ev : Evaluator) (n : Numbers) (a : Answer) where
   spinodals-ends maxdensity t (Spinodals.Ended q) e l = sym e ∙ ap endedNumbers (done-same _ a l)
   spinodals-ends maxdensity t (Spinodals.At x) e l = absurd (not-done ev _ _ _ a l (spinodals-law maxdensity t ev x 0 f0))
 
+  temperature-ends : (maxdensity t : Float) (p : TemperaturePlace) → temperatureNumbers p ≡ n → temperatureLeft maxdensity t p ≡ done a → n ≡ endedNumbers a
+  unfolding temperatureLeft temperatureNumbers
+  temperature-ends maxdensity t (Temperature.Ended q) e l = sym e ∙ ap endedNumbers (done-same _ a l)
+  temperature-ends maxdensity t (Temperature.At x) e l = absurd (not-done ev _ _ _ a l (temperature-law maxdensity t ev x 0 f0))
+
+  pressure-ends : (maxdensity pressure : Float) (p : PressurePlace) → pressureNumbers p ≡ n → pressureLeft maxdensity pressure p ≡ done a → n ≡ endedNumbers a
+  unfolding pressureLeft pressureNumbers
+  pressure-ends maxdensity pressure (Pressure.Ended q) e l = sym e ∙ ap endedNumbers (done-same _ a l)
+  pressure-ends maxdensity pressure (Pressure.At x) e l = absurd (not-done ev _ _ _ a l (pressure-law maxdensity pressure ev x 0 f0))
+
 pub ends : (job : Job) (ev : Evaluator) (n : Numbers) (a : Answer) → again job n ≡ n → leftOf job n ≡ done a → n ≡ endedNumbers a
 unfolding again leftOf
 ends (Density c) ev n a h l = density-ends ev n a c _ h l
@@ -156,3 +192,5 @@ ends (PressureSpinodal maxdensity t ρ) ev n a h l = spinodal-ends ev n a maxden
 ends (BranchSpinodal maxdensity t branch) ev n a h l = branch-ends ev n a maxdensity t branch _ h l
 ends (CriticalPoint maxdensity temperature density) ev n a h l = critical-ends ev n a maxdensity _ _ h l
 ends (StabilitySpinodals maxdensity t) ev n a h l = spinodals-ends ev n a maxdensity t _ h l
+ends (CriticalPointBinaryT maxdensity z0 z1 t density) ev n a h l = temperature-ends ev n a maxdensity t _ h l
+ends (CriticalPointBinaryP maxdensity z0 z1 p temperature density) ev n a h l = pressure-ends ev n a maxdensity p _ h l

@@ -34,6 +34,7 @@ use Rattle.stepping.proofs.YieldFloats.{yields-fit}
 use Rattle.stepping.proofs.DensityFloats.{ConditionsFit, conditions-fit, density-begin, density-steps, stable-begin, stable-steps, spinodal-begin, spinodal-steps, branch-begin, branch-steps}
 use Rattle.stepping.proofs.FloatLaws.{Fit, zero-fits, cond-keeps}
 use Rattle.stepping.proofs.CriticalFloats.{StartFits, critical-begin, critical-steps, spinodals-begin, spinodals-steps}
+use Rattle.stepping.proofs.BinaryFloats.{temperature-begin, temperature-steps, pressure-begin, pressure-steps}
 
 -- ---- a task's floats are read of the block, or +0
 abbrev pub InitialFits : DensityInitialization → Type 0
@@ -49,6 +50,8 @@ TaskFits (Task.PressureSpinodal t start) = Fit t × Fit start
 TaskFits (Task.PressureSpinodalBranch t branch) = Fit t
 TaskFits (Task.CriticalPoint t density) = StartFits t × StartFits density
 TaskFits (Task.Spinodal t) = Fit t
+TaskFits (Task.CriticalPointBinaryT t density) = Fit t × StartFits density
+TaskFits (Task.CriticalPointBinaryP p t density) = Fit p × StartFits t × StartFits density
 
 -- the conditions of a request as they are read
 record Given (c : Conditions) : Type 0 where
@@ -75,7 +78,8 @@ given-fits x h = cond-keeps StartFits (plusZero x) _ _ tt h
 task-fits : (kind : ℕ) (c : Conditions) → Given c → TaskFits (taskOf kind c)
 task-fits kind c g =
     task-keeps TaskFits kind c (g .temperature, g .pressure, initial-fits (c .choice) (c .start) (g .start)) (g .temperature, g .pressure) (g .temperature, g .start) (g .temperature)
-    (given-fits (c .temperature) (g .temperature), given-fits (c .start) (g .start)) (g .temperature)
+    (given-fits (c .temperature) (g .temperature), given-fits (c .start) (g .start)) (g .temperature) (g .temperature, given-fits (c .start) (g .start))
+    (g .pressure, given-fits (c .temperature) (g .temperature), given-fits (c .start) (g .start))
 
 refused-fits : (number : ℕ) → TaskFits (refused number .task)
 unfolding refused
@@ -102,7 +106,13 @@ recounted job ev step s k =
     let h = step (uncounted s) (record { values = k .values; latest = k .latest }) in
     record { values = h .values; latest = h .latest }
 
-module _ (maxdensity : Float) (m : Fit maxdensity) where
+module _ (blend : Blend) where
+  abbrev maxdensity : Float
+  maxdensity = maxDensity blend
+
+  m : Fit maxdensity
+  m = max-density-fits blend
+
   start-density : (t p : Float) (initial : DensityInitialization) → InitialFits initial → Fit (Density.startOf maxdensity t p initial)
   unfolding Density.startOf
   start-density t p Vapor h = div-fits binary64 p t
@@ -112,7 +122,7 @@ module _ (maxdensity : Float) (m : Fit maxdensity) where
   density-conditions : (t p : Float) (initial : DensityInitialization) → TaskFits (Task.DensityIteration t p initial) → ConditionsFit (Density.conditionsOf maxdensity t p initial)
   density-conditions t p initial (ht, hp, hi) = conditions-fit maxdensity t p initial m ht hp (start-density t p initial hi)
 
-  begins : (task : Task) → TaskFits task → FloatsStorable (startBy (workOf maxdensity task))
+  begins : (task : Task) → TaskFits task → FloatsStorable (startBy (workOf blend task))
   unfolding workOf startBy refusedState
   begins (Task.Refused number) h = record { values = record { first = zero-fits; second = zero-fits; third = zero-fits }; latest = zero-fits }
   begins (Task.DensityIteration t p initial) h = density-begin _ (density-conditions t p initial h)
@@ -121,8 +131,10 @@ module _ (maxdensity : Float) (m : Fit maxdensity) where
   begins (Task.PressureSpinodalBranch t branch) ht = branch-begin maxdensity t branch m ht
   begins (Task.CriticalPoint t density) (ht, hd) = critical-begin maxdensity t density ht hd
   begins (Task.Spinodal t) ht = spinodals-begin maxdensity t
+  begins (Task.CriticalPointBinaryT t density) h = temperature-begin maxdensity _ _ t density
+  begins (Task.CriticalPointBinaryP p t density) (hp, ht, hd) = pressure-begin maxdensity _ _ p t density ht
 
-  steps : (ev : Evaluator) → YieldsFit ev → (task : Task) → TaskFits task → (s : State) → FloatsStorable s → FloatsStorable (stepBy ev (workOf maxdensity task) s)
+  steps : (ev : Evaluator) → YieldsFit ev → (task : Task) → TaskFits task → (s : State) → FloatsStorable s → FloatsStorable (stepBy ev (workOf blend task) s)
   unfolding workOf
   steps ev y (Task.Refused number) h = unfold stepBy in λ s k. k
   steps ev y (Task.DensityIteration t p initial) h = recounted _ ev (λ s. density-steps _ ev s (density-conditions t p initial h) y)
@@ -131,15 +143,16 @@ module _ (maxdensity : Float) (m : Fit maxdensity) where
   steps ev y (Task.PressureSpinodalBranch t branch) ht = recounted _ ev (λ s. branch-steps maxdensity t branch ev s m ht y)
   steps ev y (Task.CriticalPoint t density) (ht, hd) = recounted _ ev (λ s. critical-steps maxdensity t density ev s hd)
   steps ev y (Task.Spinodal t) ht = recounted _ ev (λ s. spinodals-steps maxdensity t ev s)
+  steps ev y (Task.CriticalPointBinaryT t density) h = recounted _ ev (λ s. temperature-steps maxdensity _ _ t density ev s)
+  steps ev y (Task.CriticalPointBinaryP p t density) h = recounted _ ev (λ s. pressure-steps maxdensity _ _ p t density ev s)
 
 -- the first state
 pub start-floats : (kind n : ℕ) (block : List ℕ) → FloatsStorable (startOf (view kind n block))
 unfolding startOf
-start-floats kind n block = begins _ (max-density-fits (view kind n block .blend)) (view kind n block .task) (view-fits kind n block)
+start-floats kind n block = begins (view kind n block .blend) (view kind n block .task) (view-fits kind n block)
 
 -- and each step keeps it so
 pub step-floats : (kind n : ℕ) (block : List ℕ) (s : State) → FloatsStorable s → FloatsStorable (stepOf (view kind n block) s)
 unfolding stepOf
 step-floats kind n block s h =
-    steps _ (max-density-fits (view kind n block .blend)) (evaluated (view kind n block .blend)) (yields-fit (view kind n block .blend)) (view kind n block .task)
-    (view-fits kind n block) s h
+    let blend = view kind n block .blend in steps blend (evaluated blend) (yields-fit blend) (view kind n block .task) (view-fits kind n block) s h

@@ -1,26 +1,26 @@
 -- A step from any state whose counters are in range, whether a job reaches it or not: it is in range and can be stored, and is the search's next evaluation. Assumes nothing.
-use mathlib.Core.Path.{_≡_, refl, sym, ap, _∙_}
-use Prim.Native.Nat.{ℕ, _+_, _%_, _^_, _<_}
+use mathlib.Core.Path.{_≡_, refl, sym, ap, _∙_, subst}
+use Prim.Native.Nat.{ℕ, _+_, _%_, _^_, _≤_, _<_}
 use native.Mathlib.Omega.{arith}
-use mathlib.Core.Bool.{Bool, true, false, not, _&&_, _||_}
+use mathlib.Core.Bool.{Bool, true, false, cond, not, _&&_, _||_}
 use mathlib.Core.List.{List}
 use lib.Dec.{ltb, eqb}
 use borrow.Author.Tests.{ltb-true, eqb-true}
 use Rattle.float.specs.Sign.{finiteOf}
 use Rattle.solver.specs.declared.types.Counters.{Counters}
 use Rattle.solver.specs.Search.{Evaluator, next}
-use Rattle.solver.specs.Stored.{statusFits, inRanges}
-use Rattle.solver.proofs.Ranges.{below}
+use Rattle.solver.specs.Stored.{statusFits, roundsOf, inRanges}
+use Rattle.solver.proofs.Ranges.{FitsBelow, below}
 use Rattle.solver_step.specs.Stored.{spinodalPlaceBy, densityPlaceBy, stablePlaceBy}
 use Rattle.solver_critical_step.specs.Stored.{criticalPlaceBy, spinodalsPlaceBy}
+use Rattle.solver_binary_step.specs.Stored.{temperaturePlaceBy, pressurePlaceBy}
 use Rattle.solver_state.specs.declared.types.Job.{Job}
-use Rattle.solver_state.specs.declared.types.Job.the-variants.{Density, StableDensity, PressureSpinodal, BranchSpinodal, CriticalPoint, StabilitySpinodals}
+use Rattle.solver_state.specs.declared.types.Job.the-variants.{Density, StableDensity, PressureSpinodal, BranchSpinodal, CriticalPoint, StabilitySpinodals, CriticalPointBinaryT, CriticalPointBinaryP}
 use Rattle.solver_state.specs.declared.types.State.{State}
 use Rattle.solver_state.specs.State as Steps
-use Rattle.solver_state.specs.State.{going, densityStep, stableStep, spinodalStep, branchStep, criticalStep, spinodalsStep}
+use Rattle.solver_state.specs.State.{going, densityStep, stableStep, spinodalStep, branchStep, criticalStep, spinodalsStep, temperatureStep, pressureStep}
 use Rattle.solver_state.proofs.StateLaw.{step-law}
 use Rattle.solver_state.proofs.Ranges.{ranges-kept}
-use Rattle.reader.specs.declared.types.Job as Block
 use Rattle.reader.specs.View.{view}
 use Rattle.reader.proofs.ViewLaws.{of-data-low}
 use Rattle.schedule.proofs.Tests.{left-true, right-true}
@@ -31,6 +31,7 @@ use Rattle.stepping.specs.States.{wrapped}
 use Rattle.stepping.specs.Storable.{CountersStorable, Storable}
 use Rattle.stepping.proofs.JobFloats.{step-floats}
 use Rattle.stepping.proofs.Paths.{step-apart}
+use Rattle.stepping.proofs.OfKind.{OfKind, view-of-kind}
 
 -- ---- tests
 
@@ -55,9 +56,18 @@ status-low status h =
     (λ e. (let z = eqb-true status 0 e in omega arith))
     (λ e. ltb-true status 28 (right-true (not (ltb status 21)) (ltb status 28) e))
 
-in-ranges-stored : (c : Counters) → inRanges c ≡ true → CountersStorable c
-in-ranges-stored c h =
-    let b = below c h in
+rounds-low : (kind : ℕ) → roundsOf kind ≤ 200
+unfolding roundsOf
+rounds-low kind = go (eqb kind 8 || eqb kind 9)
+  where
+    go : (b : Bool) → cond b 200 50 ≤ 200
+    go true = omega arith
+    go false = omega arith
+
+in-ranges-stored : (kind : ℕ) (c : Counters) → inRanges kind c ≡ true → CountersStorable c
+in-ranges-stored kind c h =
+    let b = below (roundsOf kind) c h in
+    let m = rounds-low kind in
     let s = status-low (c .status) (b .status) in
     let g = b .stage in
     let t = b .tag in
@@ -83,9 +93,9 @@ refusal-stored c h =
     record { stage = omega arith; tag = omega arith; status = omega arith; left = omega arith; way = omega arith; rounds = omega arith }
 
 -- counters in range can be stored
-pub counters-stored : (s : State) → stateFits s ≡ true → CountersStorable (s .numbers .counters)
+pub counters-stored : (kind : ℕ) (s : State) → stateFits kind s ≡ true → CountersStorable (s .numbers .counters)
 unfolding stateFits
-counters-stored s h = or-either (inRanges (s .numbers .counters)) (dataRefusal (s .numbers .counters)) h (in-ranges-stored _) (refusal-stored _)
+counters-stored kind s h = or-either (inRanges kind (s .numbers .counters)) (dataRefusal (s .numbers .counters)) h (in-ranges-stored kind _) (refusal-stored _)
 
 -- ---- a step
 
@@ -107,22 +117,27 @@ end-stays job ev s h = go job
     go (BranchSpinodal maxdensity temperature branch) = unfold spinodalPlaceBy branchStep in (rw t)
     go (CriticalPoint maxdensity temperature density) = unfold criticalPlaceBy criticalStep in (rw t)
     go (StabilitySpinodals maxdensity temperature) = unfold spinodalsPlaceBy spinodalsStep in (rw g)
+    go (CriticalPointBinaryT maxdensity z0 z1 temperature density) = unfold temperaturePlaceBy temperatureStep in (rw t)
+    go (CriticalPointBinaryP maxdensity z0 z1 p temperature density) = unfold pressurePlaceBy pressureStep in (rw t)
 
-work-kept : (ev : Evaluator) (w : Work) (s : State) → stateFits s ≡ true → stateFits (stepBy ev w s) ≡ true
+work-kept : (kind : ℕ) (ev : Evaluator) (w : Work) (s : State) → OfKind kind w → stateFits kind s ≡ true → stateFits kind (stepBy ev w s) ≡ true
 unfolding stepBy stateFits
-work-kept ev (Work.Refused number) s h = h
-work-kept ev (Work.Search job) s h =
-    or-either (inRanges (s .numbers .counters)) (dataRefusal (s .numbers .counters)) h
-    (λ e. or-left _ _ (ranges-kept job ev (uncounted s) e))
-    (λ e. ap (λ (x : State). inRanges (x .numbers .counters) || dataRefusal (x .numbers .counters)) (end-stays job ev (uncounted s) (ended e)) ∙ h)
+work-kept kind ev (Work.Refused number) s o h = h
+work-kept kind ev (Work.Search job) s o h =
+    or-either (inRanges kind (s .numbers .counters)) (dataRefusal (s .numbers .counters)) h
+    (λ e. or-left _ _ (subst (within (Steps.stepOf job ev (uncounted s))) (sym o) (ranges-kept job ev (uncounted s) (subst (within s) o e))))
+    (λ e. ap (λ (x : State). inRanges kind (x .numbers .counters) || dataRefusal (x .numbers .counters)) (end-stays job ev (uncounted s) (ended e)) ∙ h)
   where
+    within : State → ℕ → Type 0
+    within x most = FitsBelow most (x .numbers)
+
     ended : dataRefusal (s .numbers .counters) ≡ true → atEnd (s .numbers .counters) ≡ true
     ended e = unfold dataRefusal in (left-true (atEnd (s .numbers .counters)) _ e)
 
--- a step of any job from a state in range leads to one
-pub fits-kept : (job : Block.Job) (s : State) → stateFits s ≡ true → stateFits (stepOf job s) ≡ true
+-- a step of any request from a state in its kind's range leads to one
+pub fits-kept : (kind n : ℕ) (block : List ℕ) (s : State) → stateFits kind s ≡ true → stateFits kind (stepOf (view kind n block) s) ≡ true
 unfolding stepOf
-fits-kept job s h = work-kept _ (workIn job) s h
+fits-kept kind n block s h = work-kept kind _ (workIn (view kind n block)) s (view-of-kind kind n block) h
 
 count-kept : (ev : Evaluator) (w : Work) (s : State) → s .evaluations < 2 ^ 64 → stepBy ev w s .evaluations < 2 ^ 64
 unfolding stepBy
@@ -133,10 +148,10 @@ count-kept ev (Work.Search job) s h = below-64 (s .evaluations + Steps.stepOf jo
     below-64 n = omega arith
 
 -- and a step from a state that is stored to one that can be
-pub stored-kept : (kind n : ℕ) (block : List ℕ) (s : State) → Storable s → stateFits s ≡ true → Storable (stepOf (view kind n block) s)
+pub stored-kept : (kind n : ℕ) (block : List ℕ) (s : State) → Storable s → stateFits kind s ≡ true → Storable (stepOf (view kind n block) s)
 stored-kept kind n block s h f =
     record {
-      counters = counters-stored _ (fits-kept (view kind n block) s f);
+      counters = counters-stored kind _ (fits-kept kind n block s f);
       evaluations = unfold stepOf in (count-kept _ (workIn (view kind n block)) s (h .evaluations));
       floats = step-floats kind n block s (h .floats);
     }

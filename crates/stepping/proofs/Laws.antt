@@ -5,15 +5,15 @@ use native.Mathlib.Omega.{arith}
 use native.Mathlib.Nat.{le-refl}
 use mathlib.Core.Bool.{true}
 use mathlib.Core.List.{List}
-use lib.Ieee.{Float}
 use Rattle.float.specs.Ops.{f0}
 use Rattle.float.specs.Sign.{finiteOf}
-use Rattle.eos.specs.Cubic.{maxDensity}
+use Rattle.eos.specs.declared.types.Blend.{Blend}
 use Rattle.solver.specs.declared.types.Answer.{Answer}
 use Rattle.solver.specs.Answer.{statusOf, valuesOf}
 use Rattle.solver.specs.Search.{Evaluator, Search, done, Going, run}
 use Rattle.solver.specs.Evaluated.{evaluated}
 use Rattle.solver.specs.Stored.{endedNumbers, inRanges}
+use Rattle.solver.proofs.Ranges.{FitsBelow}
 use Rattle.solver.proofs.Steps.{finishes}
 use Rattle.solver_density.specs.Density.{densityIteration}
 use Rattle.solver_state.specs.declared.types.State.{State}
@@ -37,6 +37,7 @@ use Rattle.stepping.proofs.Ends.{ends}
 use Rattle.stepping.proofs.Sights.{seen, seen-settled, seen-least}
 use Rattle.stepping.proofs.Paths.{path, along, count-low, path-fits, path-again, states, job-states}
 use Rattle.stepping.proofs.Refusals.{byData, refused-by-data}
+use Rattle.stepping.proofs.OfKind.{OfKind, view-of-kind}
 use Rattle.stepping.proofs.Kept.{or-left, or-right, counters-stored}
 
 -- ---- the work of a task is its course
@@ -45,25 +46,29 @@ courseBy : Work → Course
 courseBy (Work.Refused number) = refusedBy number
 courseBy (Work.Search job) = searches (searchOf job)
 
-course-work : (maxdensity : Float) (task : Task) → courseOf maxdensity task ≡ courseBy (workOf maxdensity task)
+course-work : (blend : Blend) (task : Task) → courseOf blend task ≡ courseBy (workOf blend task)
 unfolding courseOf courseBy workOf searchOf densityIteration
-course-work maxdensity (Task.Refused number) = refl
-course-work maxdensity (Task.DensityIteration t p initial) = refl
-course-work maxdensity (Task.DensityIterationStable t p) = refl
-course-work maxdensity (Task.PressureSpinodal t start) = refl
-course-work maxdensity (Task.PressureSpinodalBranch t branch) = refl
-course-work maxdensity (Task.CriticalPoint t density) = refl
-course-work maxdensity (Task.Spinodal t) = refl
+course-work blend (Task.Refused number) = refl
+course-work blend (Task.DensityIteration t p initial) = refl
+course-work blend (Task.DensityIterationStable t p) = refl
+course-work blend (Task.PressureSpinodal t start) = refl
+course-work blend (Task.PressureSpinodalBranch t branch) = refl
+course-work blend (Task.CriticalPoint t density) = refl
+course-work blend (Task.Spinodal t) = refl
+course-work blend (Task.CriticalPointBinaryT t density) = refl
+course-work blend (Task.CriticalPointBinaryP p t density) = refl
 
 -- ---- in range
 
-states-fit : (ev : Evaluator) (w : Work) (k : ℕ) → byData w ≡ true → stateFits (states ev w k) ≡ true
+states-fit : (kind : ℕ) (ev : Evaluator) (w : Work) (k : ℕ) → OfKind kind w → byData w ≡ true → stateFits kind (states ev w k) ≡ true
 unfolding states stateFits byData refusedState dataRefusal atEnd
-states-fit ev (Work.Refused number) k h = or-right (inRanges (refusedState number .numbers .counters)) (ofData number) h
-states-fit ev (Work.Search job) k h = or-left _ _ (path-fits job ev k)
+states-fit kind ev (Work.Refused number) k o h = or-right (inRanges kind (refusedState number .numbers .counters)) (ofData number) h
+states-fit kind ev (Work.Search job) k o h = or-left _ _ (subst (λ (most : ℕ). FitsBelow most (path job ev k .numbers)) (sym o) (path-fits job ev k))
 
-fits : (kind n : ℕ) (block : List ℕ) → Request kind n block → (turns : ℕ) → stateFits (stateAfter (view kind n block) turns) ≡ true
-fits kind n block r turns = ap stateFits (job-states (view kind n block) turns) ∙ states-fit _ (workIn (view kind n block)) turns (refused-by-data _ kind n block r)
+fits : (kind n : ℕ) (block : List ℕ) → Request kind n block → (turns : ℕ) → stateFits kind (stateAfter (view kind n block) turns) ≡ true
+fits kind n block r turns =
+    ap (stateFits kind) (job-states (view kind n block) turns)
+    ∙ states-fit kind _ (workIn (view kind n block)) turns (view-of-kind kind n block) (refused-by-data kind n block r)
 
 -- ---- stored
 
@@ -80,7 +85,7 @@ floats kind n block (suc k) = step-floats kind n block (stateAfter (view kind n 
 stores : (kind n : ℕ) (block : List ℕ) → Request kind n block → (turns : ℕ) → Storable (stateAfter (view kind n block) turns)
 stores kind n block r turns =
     record {
-      counters = counters-stored _ (fits kind n block r turns);
+      counters = counters-stored kind _ (fits kind n block r turns);
       evaluations = rw (job-states (view kind n block) turns) (count-fits _ (workIn (view kind n block)) turns);
       floats = floats kind n block turns;
     }
@@ -102,7 +107,7 @@ shows kind n block r turns =
     let job = view kind n block in
     ap sightIn (job-states job turns)
     ∙ states-show (evaluated (job .blend)) (workIn job) turns
-    ∙ sym (ap (sightOf (evaluated (job .blend)) turns) (course-work (maxDensity (job .blend)) (job .task)))
+    ∙ sym (ap (sightOf (evaluated (job .blend)) turns) (course-work (job .blend) (job .task)))
 
 -- ---- at the end
 
@@ -124,7 +129,7 @@ finished : (kind n : ℕ) (block : List ℕ) → Request kind n block → sealed
 unfolding sealedOf outcomeOf
 finished kind n block r =
     let job = view kind n block in
-    let c = course-work (maxDensity (job .blend)) (job .task) in
+    let c = course-work (job .blend) (job .task) in
     let m : CourseWithin (spanOf kind) (courseBy (workIn job)) = subst (CourseWithin (spanOf kind)) c (job-within kind n block) in
     ap sealedBytes
     (ap outcomeAt (job-states job (spanOf kind))

@@ -3,12 +3,14 @@ pub mod Yields
 pub mod YieldFloats
 pub mod DensityFloats
 pub mod CriticalFloats
+pub mod BinaryFloats
 pub mod JobFloats
 pub mod Ends
 pub mod Sights
 pub mod Paths
 pub mod ReadSteps
 pub mod Still
+pub mod OfKind
 pub mod Refusals
 pub mod Kept
 pub mod Laws

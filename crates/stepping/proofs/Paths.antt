@@ -12,7 +12,7 @@ use Rattle.float.specs.Sign.{finiteOf}
 use Rattle.solver.specs.Search.{Evaluator, Going, next, after, fresh, settle}
 use Rattle.solver.specs.Evaluated.{evaluated}
 use Rattle.solver.proofs.Steps.{finishes}
-use Rattle.solver.proofs.Ranges.{Fits}
+use Rattle.solver.proofs.Ranges.{FitsBelow}
 use Rattle.solver.proofs.Spans.{run-most}
 use Rattle.solver_density.specs.declared.types.Branch.{Branch}
 use Rattle.solver_density.specs.declared.types.Conditions.{Conditions}
@@ -26,10 +26,14 @@ use Rattle.solver_critical_step.specs.declared.types.CriticalPlace.{CriticalPla
 use Rattle.solver_critical_step.specs.declared.types.CriticalPlace.the-variants as Critical
 use Rattle.solver_critical_step.specs.declared.types.SpinodalsPlace.{SpinodalsPlace}
 use Rattle.solver_critical_step.specs.declared.types.SpinodalsPlace.the-variants as Spinodals
+use Rattle.solver_binary_step.specs.declared.types.TemperaturePlace.{TemperaturePlace}
+use Rattle.solver_binary_step.specs.declared.types.TemperaturePlace.the-variants as Temperature
+use Rattle.solver_binary_step.specs.declared.types.PressurePlace.{PressurePlace}
+use Rattle.solver_binary_step.specs.declared.types.PressurePlace.the-variants as Pressure
 use Rattle.solver_state.specs.declared.types.Job.{Job}
-use Rattle.solver_state.specs.declared.types.Job.the-variants.{Density, StableDensity, PressureSpinodal, BranchSpinodal, CriticalPoint, StabilitySpinodals}
+use Rattle.solver_state.specs.declared.types.Job.the-variants.{Density, StableDensity, PressureSpinodal, BranchSpinodal, CriticalPoint, StabilitySpinodals, CriticalPointBinaryT, CriticalPointBinaryP}
 use Rattle.solver_state.specs.declared.types.State.{State}
-use Rattle.solver_state.specs.State.{searchOf, spanOf, going, startOf, densityStep, stableStep, spinodalStep, branchStep, criticalStep, spinodalsStep, stepOf}
+use Rattle.solver_state.specs.State.{searchOf, spanOf, mostRounds, going, startOf, densityStep, stableStep, spinodalStep, branchStep, criticalStep, spinodalsStep, temperatureStep, pressureStep, stepOf}
 use Rattle.solver_state.proofs.StateLaw.{step-law, begins, within-span}
 use Rattle.solver_state.proofs.Ranges.{ranges-kept, starts-in-ranges}
 use Rattle.reader.specs.declared.types.Job as Block
@@ -80,6 +84,16 @@ module _ (ev : Evaluator) (s : State) where
   spinodals-apart maxdensity t (Spinodals.Ended a) = ended-apart
   spinodals-apart maxdensity t (Spinodals.At x) = refl
 
+  temperature-apart : (maxdensity t : Float) (p : TemperaturePlace) → temperatureStep maxdensity t ev p s ≡ added s (temperatureStep maxdensity t ev p (uncounted s))
+  unfolding temperatureStep
+  temperature-apart maxdensity t (Temperature.Ended a) = ended-apart
+  temperature-apart maxdensity t (Temperature.At x) = refl
+
+  pressure-apart : (maxdensity pressure : Float) (p : PressurePlace) → pressureStep maxdensity pressure ev p s ≡ added s (pressureStep maxdensity pressure ev p (uncounted s))
+  unfolding pressureStep
+  pressure-apart maxdensity pressure (Pressure.Ended a) = ended-apart
+  pressure-apart maxdensity pressure (Pressure.At x) = refl
+
 pub step-apart : (job : Job) (ev : Evaluator) (s : State) → stepOf job ev s ≡ added s (stepOf job ev (uncounted s))
 unfolding stepOf
 step-apart (Density c) ev s = density-apart ev s c _
@@ -88,6 +102,8 @@ step-apart (PressureSpinodal maxdensity t ρ) ev s = spinodal-apart ev s maxdens
 step-apart (BranchSpinodal maxdensity t branch) ev s = branch-apart ev s maxdensity t branch _
 step-apart (CriticalPoint maxdensity temperature density) ev s = critical-apart ev s maxdensity _ _
 step-apart (StabilitySpinodals maxdensity t) ev s = spinodals-apart ev s maxdensity t _
+step-apart (CriticalPointBinaryT maxdensity z0 z1 t density) ev s = temperature-apart ev s maxdensity t _
+step-apart (CriticalPointBinaryP maxdensity z0 z1 p temperature density) ev s = pressure-apart ev s maxdensity p _
 
 -- so the stored count is the count, where that is below 2^64
 pub step-counted : (job : Job) (ev : Evaluator) (s : State) → stepOf job ev s .evaluations < 2 ^ 64 → stepBy ev (Work.Search job) s ≡ stepOf job ev s
@@ -112,6 +128,8 @@ span-low (PressureSpinodal maxdensity t ρ) = omega arith
 span-low (BranchSpinodal maxdensity t branch) = omega arith
 span-low (CriticalPoint maxdensity temperature density) = omega arith
 span-low (StabilitySpinodals maxdensity t) = omega arith
+span-low (CriticalPointBinaryT maxdensity z0 z1 t density) = omega arith
+span-low (CriticalPointBinaryP maxdensity z0 z1 p temperature density) = omega arith
 
 module _ (job : Job) (ev : Evaluator) where
   -- after k steps it stands where its definition does after k evaluations
@@ -141,7 +159,7 @@ module _ (job : Job) (ev : Evaluator) where
           let l = span-low job in
           omega arith
 
-  pub path-fits : (k : ℕ) → Fits (path job ev k .numbers)
+  pub path-fits : (k : ℕ) → FitsBelow (mostRounds job) (path job ev k .numbers)
   unfolding path
   path-fits zero = starts-in-ranges job
   path-fits (suc k) = ranges-kept job ev (path job ev k) (path-fits k)

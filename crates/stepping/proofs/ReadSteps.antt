@@ -1,9 +1,7 @@
 -- A step of a job whose blend is read in place: that of the job, since a refused one makes no evaluation. Assumes nothing.
 use mathlib.Core.Path.{_≡_, refl, ap, _∙_}
 use mathlib.Core.Bool.{Bool, true, cond}
-use lib.Ieee.{Float}
 use Rattle.eos.specs.declared.types.Blend.{Blend}
-use Rattle.eos.specs.Cubic.{maxDensity}
 use Rattle.solver.specs.Evaluated.{evaluated}
 use Rattle.reader.specs.declared.types.Job.{Job}
 use Rattle.reader.specs.declared.types.Task.{Task}
@@ -16,7 +14,7 @@ use Rattle.stepping.specs.Stepping.{workOf, startBy, startOf, stepBy, st
 module _ (begun : Bool) (stored : State) where
   -- the step on a blend
   abbrev stepOn : Task → Blend → State
-  stepOn task b = stepBy (evaluated b) (workOf (maxDensity b) task) (cond begun stored (startBy (workOf (maxDensity b) task)))
+  stepOn task b = stepBy (evaluated b) (workOf b task) (cond begun stored (startBy (workOf b task)))
 
   same-step : (task : Task) (rows b : Blend) → (notRefused task ≡ true → rows ≡ b) → stepOn task rows ≡ stepOn task b
   unfolding workOf startBy stepBy notRefused
@@ -27,9 +25,11 @@ module _ (begun : Bool) (stored : State) where
   same-step (Task.PressureSpinodalBranch t branch) rows b h = ap (stepOn (Task.PressureSpinodalBranch t branch)) (h refl)
   same-step (Task.CriticalPoint t density) rows b h = ap (stepOn (Task.CriticalPoint t density)) (h refl)
   same-step (Task.Spinodal t) rows b h = ap (stepOn (Task.Spinodal t)) (h refl)
+  same-step (Task.CriticalPointBinaryT t density) rows b h = ap (stepOn (Task.CriticalPointBinaryT t density)) (h refl)
+  same-step (Task.CriticalPointBinaryP p t density) rows b h = ap (stepOn (Task.CriticalPointBinaryP p t density)) (h refl)
 
-  pub step-read : (job : Job) (task : Task) (rows blend : Blend) (m : Float) (w : Work) (from r : State) → Reads job task rows → blend ≡ rows → m ≡ maxDensity blend → w ≡ workOf m task
+  pub step-read : (job : Job) (task : Task) (rows blend : Blend) (w : Work) (from r : State) → Reads job task rows → blend ≡ rows → w ≡ workOf blend task
       → from ≡ cond begun stored (startBy w) → r ≡ stepBy (evaluated blend) w from → r ≡ stepOf job (cond begun stored (startOf job))
   unfolding stepOf startOf
-  step-read job task rows blend m w from r h eb em ew ef er =
-      er ∙ rw (ef, ew, em, eb) (same-step task rows (job .blend) (h .1) ∙ ap (λ (t : Task). stepOn t (job .blend)) (h .0))
+  step-read job task rows blend w from r h eb ew ef er =
+      er ∙ rw (ef, ew, eb) (same-step task rows (job .blend) (h .1) ∙ ap (λ (t : Task). stepOn t (job .blend)) (h .0))

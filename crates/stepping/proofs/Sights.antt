@@ -7,7 +7,7 @@ use mathlib.Core.Bool.{Bool}
 use lib.Ieee.{Float}
 use Rattle.solver.specs.declared.types.Answer.{Answer}
 use Rattle.solver.specs.declared.types.Ran.{Ran}
-use Rattle.solver.specs.Search.{Evaluation, Yield, Evaluator, Search, done, ask, test, run, settle, Going, nextOf, next, after}
+use Rattle.solver.specs.Search.{Query, Yield, densityOf, Evaluator, Search, done, ask, test, run, settle, Going, nextOf, next, after}
 use Rattle.solver.proofs.Runs.{run-from}
 use Rattle.stepping.specs.States.{Sight}
 
@@ -21,7 +21,7 @@ module _ (ok : Float → Bool) (ev : Evaluator) where
   next-settled : (t : Search) (n : ℕ) (d : Float) → nextOf ok ev (settle ok t) n d ≡ nextOf ok ev t n d
   unfolding nextOf settle
   next-settled (done a) n d = refl
-  next-settled (ask e t ρ k) n d = refl
+  next-settled (ask q k) n d = refl
   next-settled (test x k) n d = next-settled (k (ok x)) n d
 
   pub seen-settled : (j : ℕ) (t : Search) (n : ℕ) (d : Float) → seen (after ok ev j (at (settle ok t) n d)) ≡ seen (after ok ev j (at t n d))
@@ -47,21 +47,22 @@ module _ (ok : Float → Bool) (ev : Evaluator) where
   abbrev Least : Search → Type 0
   Least t = (j n : ℕ) (d : Float) → seen (after ok ev j (at t n d)) ≡ seen (after ok ev (min j (run ok ev 0 t .evaluations)) (at t n d))
 
-  asked-least : (e : Evaluation) (t ρ : Float) (k : Yield e → Search) → Least (k (ev e t ρ)) → Least (ask e t ρ k)
-  asked-least e t ρ k h zero n d = sym (ap (λ (i : ℕ). seen (after ok ev i (at (ask e t ρ k) n d))) (zero-min (run ok ev 0 (ask e t ρ k) .evaluations)))
-  asked-least e t ρ k h (suc j) n d =
-      let u = k (ev e t ρ) in
+  asked-least : (q : Query) (k : Yield q → Search) → Least (k (ev q)) → Least (ask q k)
+  asked-least q k h zero n d = sym (ap (λ (i : ℕ). seen (after ok ev i (at (ask q k) n d))) (zero-min (run ok ev 0 (ask q k) .evaluations)))
+  asked-least q k h (suc j) n d =
+      let u = k (ev q) in
       let r = run ok ev 0 u .evaluations in
-      let i : min (suc j) (run ok ev 0 (ask e t ρ k) .evaluations) ≡ suc (min j r) = unfold run in (ap (min (suc j)) (one-less u) ∙ suc-min-suc j r) in
-      further j ∙ seen-settled j u (n + 1) ρ ∙ h j (n + 1) ρ ∙ sym (seen-settled (min j r) u (n + 1) ρ) ∙ sym (further (min j r)) ∙ sym (ap (λ (m : ℕ). seen (after ok ev m (at (ask e t ρ k) n d))) i)
+      let i : min (suc j) (run ok ev 0 (ask q k) .evaluations) ≡ suc (min j r) = unfold run in (ap (min (suc j)) (one-less u) ∙ suc-min-suc j r) in
+      let ρ = densityOf q in
+      further j ∙ seen-settled j u (n + 1) ρ ∙ h j (n + 1) ρ ∙ sym (seen-settled (min j r) u (n + 1) ρ) ∙ sym (further (min j r)) ∙ sym (ap (λ (m : ℕ). seen (after ok ev m (at (ask q k) n d))) i)
     where
-      further : (m : ℕ) → seen (after ok ev (suc m) (at (ask e t ρ k) n d)) ≡ seen (after ok ev m (at (settle ok (k (ev e t ρ))) (n + 1) ρ))
+      further : (m : ℕ) → seen (after ok ev (suc m) (at (ask q k) n d)) ≡ seen (after ok ev m (at (settle ok (k (ev q))) (n + 1) (densityOf q)))
       further m = unfold after nextOf in refl
 
   pub seen-least : (t : Search) → Least t
   unfolding run
   seen-least (done a) j n d = seen-done j a n d ∙ sym (seen-done (min j 0) a n d)
-  seen-least (ask e t ρ k) j n d = asked-least e t ρ k (seen-least (k (ev e t ρ))) j n d
+  seen-least (ask q k) j n d = asked-least q k (seen-least (k (ev q))) j n d
   seen-least (test x k) j n d = seen-tested j x k n d ∙ seen-least (k (ok x)) j n d ∙ sym (seen-tested (min j (run ok ev 0 (k (ok x)) .evaluations)) x k n d)
 
   -- the last evaluation of one more
@@ -74,7 +75,7 @@ module _ (ok : Float → Bool) (ev : Evaluator) where
   one-more : (t : Search) (n : ℕ) (d : Float) → nextOf ok ev t n d .evaluations ≤ n + 1
   unfolding nextOf
   one-more (done a) n d = omega arith
-  one-more (ask e t ρ k) n d = omega arith
+  one-more (ask q k) n d = omega arith
   one-more (test x k) n d = one-more (k (ok x)) n d
 
   pub after-most : (j : ℕ) (g : Going) → after ok ev j g .evaluations ≤ g .evaluations + j

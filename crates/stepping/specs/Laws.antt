@@ -11,9 +11,9 @@ use Rattle.stepping.specs.States.{Request, stateAfter, outcomeAt, Sight,
 use Rattle.stepping.specs.Storable.{Storable}
 
 pub record Stepping : Type 0 where
-  -- every state of a request can be stored, and is in range
+  -- every state of a request can be stored, and is in its kind's range
   pub stores : (kind n : ℕ) (block : List ℕ) → Request kind n block → (turns : ℕ) → Storable (stateAfter (view kind n block) turns)
-  pub fits : (kind n : ℕ) (block : List ℕ) → Request kind n block → (turns : ℕ) → stateFits (stateAfter (view kind n block) turns) ≡ true
+  pub fits : (kind n : ℕ) (block : List ℕ) → Request kind n block → (turns : ℕ) → stateFits kind (stateAfter (view kind n block) turns) ≡ true
   -- the states are the definition's
   pub shows : (kind n : ℕ) (block : List ℕ) → Request kind n block → (turns : ℕ)
       → _≡_ {A = Sight} (record { evaluations = stateAfter (view kind n block) turns .evaluations; density = stateAfter (view kind n block) turns .latest }) (sight kind n block turns)

@@ -7,13 +7,12 @@ use lib.ListN.{length}
 use lib.Ieee.{Float}
 use Rattle.float.specs.Ops.{f0}
 use Rattle.float.specs.Sign.{finiteOf}
-use Rattle.eos.specs.Cubic.{maxDensity}
 use Rattle.solver.specs.Search.{Evaluator, run, Going, after, fresh}
 use Rattle.solver.specs.Evaluated.{evaluated}
 use Rattle.reader.specs.declared.types.Job.{Job}
 use Rattle.reader.specs.View.{view}
 use Rattle.records.specs.declared.types.Outcome.{Outcome}
-use Rattle.records.specs.Outcome.{Course, refusedBy, searches, courseOf}
+use Rattle.records.specs.Outcome.{Course, refusedBy, searches, jobCourse}
 use Rattle.schedule.specs.Spans.{kindFits, countFits}
 use Rattle.solver_state.specs.declared.types.State.{State}
 use Rattle.stepping.specs.Stepping.{startOf, stepOf, resultOf}
@@ -53,4 +52,4 @@ sightOf ev turns (searches t) =
 
 unfoldable pub sight : (kind n : ℕ) → List ℕ → (turns : ℕ) → Sight
 sight kind n block turns =
-    sightOf (evaluated (view kind n block .blend)) turns (courseOf (maxDensity (view kind n block .blend)) (view kind n block .task))
+    sightOf (evaluated (view kind n block .blend)) turns (jobCourse (view kind n block))

@@ -2,9 +2,9 @@
 use Prim.Native.Nat.{ℕ, _+_, _%_, _^_}
 use mathlib.Core.Bool.{Bool, cond, _&&_, _||_}
 use lib.Dec.{eqb}
-use lib.Ieee.{Float}
 use Rattle.float.specs.Ops.{f0}
-use Rattle.eos.specs.Cubic.{maxDensity}
+use Rattle.eos.specs.declared.types.Blend.{Blend}
+use Rattle.eos.specs.Cubic.{nth, maxDensity}
 use Rattle.solver.specs.declared.types.Counters.{Counters}
 use Rattle.solver.specs.Search.{Evaluator}
 use Rattle.solver.specs.Evaluated.{evaluated}
@@ -21,18 +21,20 @@ use Rattle.stepping.specs.declared.types.Work.{Work}
 use Rattle.stepping.specs.declared.types.Work.the-variants as Work
 use Rattle.stepping.specs.declared.types.Ended.{Ended}
 
--- the search that a task makes, from the maximum density of its blend
-unfoldable pub workOf : (maxdensity : Float) → Task → Work
-workOf maxdensity (Task.Refused number) = Work.Refused number
-workOf maxdensity (Task.DensityIteration t p initial) = Work.Search (Search.Density (conditionsOf maxdensity t p initial))
-workOf maxdensity (Task.DensityIterationStable t p) = Work.Search (Search.StableDensity maxdensity t p)
-workOf maxdensity (Task.PressureSpinodal t start) = Work.Search (Search.PressureSpinodal maxdensity t start)
-workOf maxdensity (Task.PressureSpinodalBranch t branch) = Work.Search (Search.BranchSpinodal maxdensity t branch)
-workOf maxdensity (Task.CriticalPoint t density) = Work.Search (Search.CriticalPoint maxdensity t density)
-workOf maxdensity (Task.Spinodal t) = Work.Search (Search.StabilitySpinodals maxdensity t)
+-- the search that a task makes, from its blend's maximum density, and in kinds 8 and 9 from its fractions
+unfoldable pub workOf : Blend → Task → Work
+workOf blend (Task.Refused number) = Work.Refused number
+workOf blend (Task.DensityIteration t p initial) = Work.Search (Search.Density (conditionsOf (maxDensity blend) t p initial))
+workOf blend (Task.DensityIterationStable t p) = Work.Search (Search.StableDensity (maxDensity blend) t p)
+workOf blend (Task.PressureSpinodal t start) = Work.Search (Search.PressureSpinodal (maxDensity blend) t start)
+workOf blend (Task.PressureSpinodalBranch t branch) = Work.Search (Search.BranchSpinodal (maxDensity blend) t branch)
+workOf blend (Task.CriticalPoint t density) = Work.Search (Search.CriticalPoint (maxDensity blend) t density)
+workOf blend (Task.Spinodal t) = Work.Search (Search.StabilitySpinodals (maxDensity blend) t)
+workOf blend (Task.CriticalPointBinaryT t density) = Work.Search (Search.CriticalPointBinaryT (maxDensity blend) (nth (blend .x) 0) (nth (blend .x) 1) t density)
+workOf blend (Task.CriticalPointBinaryP p t density) = Work.Search (Search.CriticalPointBinaryP (maxDensity blend) (nth (blend .x) 0) (nth (blend .x) 1) p t density)
 
 abbrev pub workIn : Job → Work
-workIn job = workOf (maxDensity (job .blend)) (job .task)
+workIn job = workOf (job .blend) (job .task)
 
 -- a job refused by its data is at its end before any evaluation: tag 0, and the refusal as its status
 unfoldable pub refusedState : ℕ → State
@@ -75,12 +77,12 @@ atEnd c = eqb (c .stage) 0 && eqb (c .tag) 0
 unfoldable pub dataRefusal : Counters → Bool
 dataRefusal c = atEnd c && (eqb (c .left) 0 && (eqb (c .way) 0 && (eqb (c .rounds) 0 && ofData (c .status))))
 
--- the range of each counter: those of a search, or a data refusal's
-abbrev pub countersFit : Counters → Bool
-countersFit c = inRanges c || dataRefusal c
+-- the range of each counter: those of the kind's search, or a data refusal's
+abbrev pub countersFit : (kind : ℕ) → Counters → Bool
+countersFit kind c = inRanges kind c || dataRefusal c
 
-unfoldable pub stateFits : State → Bool
-stateFits s = countersFit (s .numbers .counters)
+unfoldable pub stateFits : (kind : ℕ) → State → Bool
+stateFits kind s = countersFit kind (s .numbers .counters)
 
 -- status and floats of an end, as they are stored; where a state is no end, which no job of a fresh board leaves in its last turn, 22 and +0
 unfoldable pub resultOf : State → Ended

@@ -15,9 +15,12 @@ use solver::Numbers;
 use solver::Values;
 use solver_state::State;
 
-fn work(maxdensity: f64, task: Task) -> Work
-    ensures { λ r. ⌜ r ≡ workOf maxdensity task ⌝ }
+fn work(blend: Blend, task: Task) -> Work
+    ensures { λ r. ⌜ r ≡ workOf blend task ⌝ }
 {
+    let maxdensity = eos::compute_max_density(blend);
+    let z0 = blend.x[0];
+    let z1 = blend.x[1];
     match task {
         Task::Refused(number) => Work::Refused(number),
         Task::DensityIteration(temperature, pressure, initial) => {
@@ -56,6 +59,25 @@ fn work(maxdensity: f64, task: Task) -> Work
             Work::Search(solver_state::Job::StabilitySpinodals {
                 maxdensity,
                 temperature,
+            })
+        }
+        Task::CriticalPointBinaryT(temperature, density) => {
+            Work::Search(solver_state::Job::CriticalPointBinaryT {
+                maxdensity,
+                z0,
+                z1,
+                temperature,
+                density,
+            })
+        }
+        Task::CriticalPointBinaryP(pressure, temperature, density) => {
+            Work::Search(solver_state::Job::CriticalPointBinaryP {
+                maxdensity,
+                z0,
+                z1,
+                pressure,
+                temperature,
+                density,
             })
         }
     }
@@ -99,7 +121,7 @@ pub fn start(job: Job) -> State
 {
     let blend = job.blend;
     let task = job.task;
-    start_by(work(eos::compute_max_density(blend), task))
+    start_by(work(blend, task))
 }
 
 fn step_by(blend: Blend, work: Work, state: State) -> State
@@ -132,7 +154,7 @@ pub fn step(job: Job, state: State) -> State
 {
     let blend = job.blend;
     let task = job.task;
-    step_by(blend, work(eos::compute_max_density(blend), task), state)
+    step_by(blend, work(blend, task), state)
 }
 
 // The state that a job goes on from: the stored one, or its first where it has not begun.
@@ -175,7 +197,7 @@ pub fn step_request(kind: u64, n: u64, block: &[u8], begun: bool, stored: State)
         &k_ij,
         &x,
     );
-    let work = work(eos::compute_max_density(blend), task);
+    let work = work(blend, task);
     step_by(blend, work, state_of(work, begun, stored))
 }
 
@@ -207,11 +229,11 @@ fn data_refusal(counters: Counters) -> bool
     of_data(counters.status)
 }
 
-// Whether stored counters are in their ranges: those of a search, or a data refusal's.
-pub fn counters_fit(counters: Counters) -> bool
-    ensures { λ r. ⌜ r ≡ countersFit counters ⌝ }
+// Whether stored counters are in their ranges: those of the kind's search, or a data refusal's.
+pub fn counters_fit(kind: u64, counters: Counters) -> bool
+    ensures { λ r. ⌜ r ≡ countersFit kind counters ⌝ }
 {
-    if solver::in_ranges(counters) {
+    if solver::in_ranges(kind, counters) {
         return true;
     }
     data_refusal(counters)

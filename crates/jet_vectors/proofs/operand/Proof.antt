@@ -5,10 +5,10 @@ use Rattle.jet_vectors.proofs.operand.Statement.{statement}
 use Rattle.jet_vectors.proofs.operand.Tie as tie
 
 abbrev Inv-loop : tie.InvT-loop
-Inv-loop s at c₀ m₀ c m = m ≤ 16
+Inv-loop s at c₀ m₀ c m = m ≤ 32
 
 abbrev μ-loop : tie.MeasureT-loop
-μ-loop s at c₀ m₀ c m = 16 - m
+μ-loop s at c₀ m₀ c m = 32 - m
 
 loop-holds : tie.Need-loop-holds Inv-loop μ-loop
 loop-holds c = search needs

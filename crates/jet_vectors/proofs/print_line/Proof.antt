@@ -5,10 +5,10 @@ use Rattle.jet_vectors.proofs.print_line.Statement.{statement}
 use Rattle.jet_vectors.proofs.print_line.Tie as tie
 
 abbrev Inv-loop : tie.InvT-loop
-Inv-loop a m₀ t4 t5 m = m ≤ 16
+Inv-loop a m₀ t4 t5 m = m ≤ 32
 
 abbrev μ-loop : tie.MeasureT-loop
-μ-loop a m₀ t4 t5 m = 16 - m
+μ-loop a m₀ t4 t5 m = 32 - m
 
 loop-holds : tie.Need-loop-holds Inv-loop μ-loop
 loop-holds c = search needs

@@ -11,20 +11,20 @@ returns : tie.Need-returns
 unfolding temperatureFits
 returns c = simp (← c .before .positive .ensures, c .if1 .taken)
 
-zero-is-none-requires : tie.Need-zero-is-none-requires
-zero-is-none-requires c κs = search needs
+optional-temperature-requires : tie.Need-optional-temperature-requires
+optional-temperature-requires c κs = search needs
 
 is-plus-zero-requires : tie.Need-is-plus-zero-requires
 is-plus-zero-requires c κs = search needs
 
 returns-2 : tie.Need-returns-2
 unfolding temperatureFits
-returns-2 c = simp (← c .before .before .before .before .positive .ensures, c .before .before .before .if1 .left, ← c .before .before .zero-is-none .ensures, c .before .if2 .taken, ← c .is-plus-zero .ensures)
+returns-2 c = simp (← c .before .before .before .before .positive .ensures, c .before .before .before .if1 .left, ← c .before .before .optional-temperature .ensures, c .before .if2 .taken, ← c .is-plus-zero .ensures)
 
 returns-3 : tie.Need-returns-3
 unfolding temperatureFits
-returns-3 c = simp (← c .before .before .before .positive .ensures, c .before .before .if1 .left, ← c .before .zero-is-none .ensures, c .if2 .left)
+returns-3 c = simp (← c .before .before .before .positive .ensures, c .before .before .if1 .left, ← c .before .optional-temperature .ensures, c .if2 .left)
 
 pub temperature-fits-spec : {M : Type 1} → statement M
 temperature-fits-spec =
-    tie.close (tie.spec positive-requires returns zero-is-none-requires is-plus-zero-requires returns-2 returns-3)
+    tie.close (tie.spec positive-requires returns optional-temperature-requires is-plus-zero-requires returns-2 returns-3)

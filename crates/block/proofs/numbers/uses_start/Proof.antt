@@ -13,12 +13,12 @@ returns-2 : tie.Need-returns-2
 unfolding usesStart
 returns-2 c = simp (ne-eqb _ _ (c .before .if1 .left), eq-eqb _ _ (c .if2 .taken))
 
-zero-is-none-requires : tie.Need-zero-is-none-requires
-zero-is-none-requires c κs = search needs
+optional-start-requires : tie.Need-optional-start-requires
+optional-start-requires c κs = search needs
 
 returns-3 : tie.Need-returns-3
 unfolding usesStart
-returns-3 c = simp (ne-eqb _ _ (c .before .before .if1 .left), ne-eqb _ _ (c .before .if2 .left), ← c .zero-is-none .ensures)
+returns-3 c = simp (ne-eqb _ _ (c .before .before .if1 .left), ne-eqb _ _ (c .before .if2 .left), ← c .optional-start .ensures)
 
 pub uses-start-spec : {M : Type 1} → statement M
-uses-start-spec = tie.close (tie.spec returns returns-2 zero-is-none-requires returns-3)
+uses-start-spec = tie.close (tie.spec returns returns-2 optional-start-requires returns-3)

@@ -38,7 +38,7 @@ mul-12-requires-3 : tie.Need-mul-12-requires-3
 mul-12-requires-3 c κs = search needs
 
 returns : tie.Need-returns
-returns c = ak-law 12 (c .before .before .before .before .before .before .before .before .before .before .before .args .t .c) (c .before .before .before .before .before .before .before .before .before .before .before .args .tc) (c .before .before .before .before .before .before .before .before .before .before .before .args .kappa) (c .before .before .before .before .before .before .before .before .before .before .before .args .a) _ _ _ _ _ _ _ _ _ _ _ (c .before .before .before .before .before .before .before .before .before .before .number .ensures) (c .before .before .before .before .before .before .before .before .before .number2 .ensures) (c .before .before .before .before .before .before .before .before .div-12 .ensures) (c .before .before .before .before .before .before .before .sqrt-12 .ensures) (c .before .before .before .before .before .before .sub .ensures) (c .before .before .before .before .before .number3 .ensures) (c .before .before .before .before .mul-12 .ensures) (c .before .before .before .add .ensures) (c .before .before .mul-122 .ensures) (c .before .number4 .ensures) (c .mul-123 .ensures)
+returns c = ak-law _ (c .before .before .before .before .before .before .before .before .before .before .before .args .t .c) (c .before .before .before .before .before .before .before .before .before .before .before .args .tc) (c .before .before .before .before .before .before .before .before .before .before .before .args .kappa) (c .before .before .before .before .before .before .before .before .before .before .before .args .a) _ _ _ _ _ _ _ _ _ _ _ (c .before .before .before .before .before .before .before .before .before .before .number .ensures) (c .before .before .before .before .before .before .before .before .before .number2 .ensures) (c .before .before .before .before .before .before .before .before .div-12 .ensures) (c .before .before .before .before .before .before .before .sqrt-12 .ensures) (c .before .before .before .before .before .before .sub .ensures) (c .before .before .before .before .before .number3 .ensures) (c .before .before .before .before .mul-12 .ensures) (c .before .before .before .add .ensures) (c .before .before .mul-122 .ensures) (c .before .number4 .ensures) (c .mul-123 .ensures)
 
 pub ak-spec : {M : Type 1} → statement M
 ak-spec =

@@ -18,7 +18,7 @@ sqrt-12-from-requires c κs =
 
 returns : tie.Need-returns
 returns c =
-    ak-root-law 12 _ _ _ _ (c .before .mul-12 .ensures) (c .sqrt-12-from .ensures)
+    ak-root-law _ _ _ _ _ (c .before .mul-12 .ensures) (c .sqrt-12-from .ensures)
 
 pub ak-root-spec : {M : Type 1} → statement M
 ak-root-spec = tie.close (tie.spec mul-12-requires sqrt-12-from-requires returns)

@@ -59,7 +59,7 @@ mul-12-requires c κs = search needs
 returns : tie.Need-returns
 returns c =
     let a = c .before .before .before .before .before .before .before .before .before .before .before .before .before .before .before .before .before .args in
-    alone-law 12 (a .blend) (a .t .c) (a .v .c) (a .moles .c) (c .before .before .before .before .before .before .before .before .before .before .before .div-12 .result .c) (c .before .before .before .before .before .before .before .before .before .before .div-122 .result .c) (c .before .before .before .before .before .before .before .before .before .ak .result .c) (c .before .before .before .number .result .c) (c .before .before .before .before .mix-term .result .c) (c .before .before .add .result .c) (c .before .number2 .result .c) (c .mul-12 .result .c) (c .before .before .before .before .before .before .before .before .before .before .before .div-12 .ensures) (c .before .before .before .before .before .before .before .before .before .before .div-122 .ensures) (c .before .before .before .before .before .before .before .before .before .ak .ensures) (term-of-root 12 (c .before .before .before .before .before .before .before .before .before .ak .result .c) (c .before .before .before .before .before .before .before .before .before .ak .result .c) (c .before .before .before .before .before .before .before .before .before .before .div-122 .result .c) (c .before .before .before .before .before .before .before .before .before .before .div-122 .result .c) _ (c .before .before .before .before .before .ak-root .result .c) (c .before .before .before .before .mix-term .result .c) (c .before .before .before .before .before .ak-root .ensures) (c .before .before .before .before .mix-term .ensures)) (c .before .before .before .number .ensures) (c .before .before .add .ensures) (c .before .number2 .ensures) (c .mul-12 .ensures)
+    alone-law _ (a .blend) (a .t .c) (a .v .c) (a .moles .c) (c .before .before .before .before .before .before .before .before .before .before .before .div-12 .result .c) (c .before .before .before .before .before .before .before .before .before .before .div-122 .result .c) (c .before .before .before .before .before .before .before .before .before .ak .result .c) (c .before .before .before .number .result .c) (c .before .before .before .before .mix-term .result .c) (c .before .before .add .result .c) (c .before .number2 .result .c) (c .mul-12 .result .c) (c .before .before .before .before .before .before .before .before .before .before .before .div-12 .ensures) (c .before .before .before .before .before .before .before .before .before .before .div-122 .ensures) (c .before .before .before .before .before .before .before .before .before .ak .ensures) (term-of-root _ (c .before .before .before .before .before .before .before .before .before .ak .result .c) (c .before .before .before .before .before .before .before .before .before .ak .result .c) (c .before .before .before .before .before .before .before .before .before .before .div-122 .result .c) (c .before .before .before .before .before .before .before .before .before .before .div-122 .result .c) _ (c .before .before .before .before .before .ak-root .result .c) (c .before .before .before .before .mix-term .result .c) (c .before .before .before .before .before .ak-root .ensures) (c .before .before .before .before .mix-term .ensures)) (c .before .before .before .number .ensures) (c .before .before .add .ensures) (c .before .number2 .ensures) (c .mul-12 .ensures)
 
 pub alone-spec : {M : Type 1} → statement M
 alone-spec =

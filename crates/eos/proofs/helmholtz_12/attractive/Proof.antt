@@ -29,7 +29,7 @@ mul-12-requires-4 : tie.Need-mul-12-requires-4
 mul-12-requires-4 c κs = search needs
 
 returns : tie.Need-returns
-returns c = attraction-law 12 (c .before .before .before .before .before .before .before .before .args .ak .c) (c .before .before .before .before .before .before .before .before .args .b .c) (c .before .before .before .before .before .before .before .before .args .t .c) (c .before .before .before .before .before .before .before .before .args .v .c) _ _ _ _ _ _ _ _ (c .before .before .before .before .before .before .before .number .ensures) (c .before .before .before .before .before .before .mul-12 .ensures) (c .before .before .before .before .before .number2 .ensures) (c .before .before .before .before .mul-122 .ensures) (c .before .before .before .mul-123 .ensures) (c .before .before .div-12 .ensures) (c .before .log-ratio .ensures) (c .mul-124 .ensures)
+returns c = attraction-law _ (c .before .before .before .before .before .before .before .before .args .ak .c) (c .before .before .before .before .before .before .before .before .args .b .c) (c .before .before .before .before .before .before .before .before .args .t .c) (c .before .before .before .before .before .before .before .before .args .v .c) _ _ _ _ _ _ _ _ (c .before .before .before .before .before .before .before .number .ensures) (c .before .before .before .before .before .before .mul-12 .ensures) (c .before .before .before .before .before .number2 .ensures) (c .before .before .before .before .mul-122 .ensures) (c .before .before .before .mul-123 .ensures) (c .before .before .div-12 .ensures) (c .before .log-ratio .ensures) (c .mul-124 .ensures)
 
 pub attractive-spec : {M : Type 1} → statement M
 attractive-spec =

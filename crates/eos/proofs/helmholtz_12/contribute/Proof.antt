@@ -23,7 +23,7 @@ mul-12-requires : tie.Need-mul-12-requires
 mul-12-requires c κs = search needs
 
 returns : tie.Need-returns
-returns c = contribution-law 12 (c .before .before .before .before .before .before .args .density .c) (c .before .before .before .before .before .before .args .ak .c) (c .before .before .before .before .before .before .args .b .c) (c .before .before .before .before .before .before .args .t .c) _ _ _ _ _ _ (c .before .before .before .before .before .number .ensures) (c .before .before .before .before .div-12 .ensures) (c .before .before .before .repulsive .ensures) (c .before .before .attractive .ensures) (c .before .sub .ensures) (c .mul-12 .ensures)
+returns c = contribution-law _ (c .before .before .before .before .before .before .args .density .c) (c .before .before .before .before .before .before .args .ak .c) (c .before .before .before .before .before .before .args .b .c) (c .before .before .before .before .before .before .args .t .c) _ _ _ _ _ _ (c .before .before .before .before .before .number .ensures) (c .before .before .before .before .div-12 .ensures) (c .before .before .before .repulsive .ensures) (c .before .before .attractive .ensures) (c .before .sub .ensures) (c .mul-12 .ensures)
 
 pub contribute-spec : {M : Type 1} → statement M
 contribute-spec =

@@ -23,7 +23,7 @@ returns : tie.Need-returns
 returns c =
     λ b n h moles em.
     let a = c .before .before .before .before .before .before .before .before .args in
-    helmholtz-law 12 n h b (a .t .c) (a .v .c) moles (a .m) _ _ _ _ _ em (c .before .before .before .contribute .ensures) (c .before .before .before .before .number .ensures) (c .before .before .add .ensures) (c .before .mul-12 .ensures) (c .mul-122 .ensures)
+    helmholtz-law _ n h b (a .t .c) (a .v .c) moles (a .m) _ _ _ _ _ em (c .before .before .before .contribute .ensures) (c .before .before .before .before .number .ensures) (c .before .before .add .ensures) (c .before .mul-12 .ensures) (c .mul-122 .ensures)
 
 pub energy-spec : {M : Type 1} → statement M
 energy-spec =

@@ -29,7 +29,7 @@ ln-12-requires : tie.Need-ln-12-requires
 ln-12-requires c κs = search needs
 
 returns : tie.Need-returns
-returns c = log-ratio-law 12 (c .before .before .before .before .before .before .before .before .args .v .c) (c .before .before .before .before .before .before .before .before .args .b .c) _ _ _ _ _ _ _ _ (c .before .before .before .before .before .before .before .number .ensures) (c .before .before .before .before .before .before .mul-12 .ensures) (c .before .before .before .before .before .add .ensures) (c .before .before .before .before .number2 .ensures) (c .before .before .before .mul-122 .ensures) (c .before .before .add2 .ensures) (c .before .div-12 .ensures) (c .ln-12 .ensures)
+returns c = log-ratio-law _ (c .before .before .before .before .before .before .before .before .args .v .c) (c .before .before .before .before .before .before .before .before .args .b .c) _ _ _ _ _ _ _ _ (c .before .before .before .before .before .before .before .number .ensures) (c .before .before .before .before .before .before .mul-12 .ensures) (c .before .before .before .before .before .add .ensures) (c .before .before .before .before .number2 .ensures) (c .before .before .before .mul-122 .ensures) (c .before .before .add2 .ensures) (c .before .div-12 .ensures) (c .ln-12 .ensures)
 
 pub log-ratio-spec : {M : Type 1} → statement M
 log-ratio-spec =

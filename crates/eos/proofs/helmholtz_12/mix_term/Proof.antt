@@ -19,7 +19,7 @@ mul-12-requires-3 c κs = search needs
 returns : tie.Need-returns
 returns c =
     let a = c .before .before .before .before .args in
-    term-law 12 _ _ _ (a .k) _ _ _ _ (c .before .before .before .mul-12 .ensures) (c .before .before .number .ensures) (c .before .mul-122 .ensures) (c .mul-123 .ensures)
+    term-law _ _ _ _ (a .k) _ _ _ _ (c .before .before .before .mul-12 .ensures) (c .before .before .number .ensures) (c .before .mul-122 .ensures) (c .mul-123 .ensures)
 
 pub mix-term-spec : {M : Type 1} → statement M
 mix-term-spec =

@@ -14,7 +14,7 @@ ln-12-requires : tie.Need-ln-12-requires
 ln-12-requires c κs = search needs
 
 returns : tie.Need-returns
-returns c = repulsion-law 12 (c .before .before .before .args .v .c) (c .before .before .before .args .b .c) _ _ _ (c .before .before .sub .ensures) (c .before .div-12 .ensures) (c .ln-12 .ensures)
+returns c = repulsion-law _ (c .before .before .before .args .v .c) (c .before .before .before .args .b .c) _ _ _ (c .before .before .sub .ensures) (c .before .div-12 .ensures) (c .ln-12 .ensures)
 
 pub repulsive-spec : {M : Type 1} → statement M
 repulsive-spec = tie.close (tie.spec sub-requires div-12-requires ln-12-requires returns)

@@ -5,7 +5,7 @@ use native.Mathlib.Omega.{arith}
 use native.Mathlib.Nat.{sub-zero}
 use Rattle.jet.specs.Coefficients.{Upto}
 use Rattle.jet.specs.Ops.{_⊞_}
-use Rattle.jet.proofs.Prefix.{add-upto}
+use Rattle.jet.proofs.Prefix.{add-upto, is}
 use Rattle.eos.specs.Indices.{foldFrom}
 use Rattle.eos.specs.Jets.{jetAt}
 use Rattle.eos.specs.Cubic.{nth, mixTerm, mixRow, akMix}
@@ -119,7 +119,7 @@ loop2-again c =
     let i = l .loop .i in
     let j = l2 .loop2 .j in
     let m = l2 .loop2 .m .c in
-    let sum = add-upto 4 m m (c .add .result .c) refl (c .before .mix-term .result .c) (mixTerm (jetAt ak i) (jetAt ak j) (jetAt x i) (jetAt x j) (nth k (8 * i + j))) (c .before .mix-term .ensures) (c .add .ensures) in
+    let sum = add-upto 4 m m (c .add .result .c) refl (c .before .mix-term .result .c) (mixTerm (jetAt ak i) (jetAt ak j) (jetAt x i) (jetAt x j) (nth k (8 * i + j))) (c .before .mix-term .ensures) (is 4 (c .add .ensures)) in
     upto-turn 4 (λ m j. m ⊞ mixTerm (jetAt ak i) (jetAt ak j) (jetAt x i) (jetAt x j) (nth k (8 * i + j))) (adding-keeps 4 (λ j. mixTerm (jetAt ak i) (jetAt ak j) (jetAt x i) (jetAt x j) (nth k (8 * i + j)))) n j m (c .add .result .c) (mixRow n (jetAt ak) (jetAt x) (λ i j. nth k (8 * i + j)) i (l .loop .m .c)) (c .before .before .before .before .before .before .before .before .loop2-test .taken) sum (l2 .loop2 .inv)
 
 add-i : tie.Need-add-i Inv-loop2 μ-loop2 Inv-loop μ-loop

@@ -1,5 +1,6 @@
 -- `eos::helmholtz_4::alone` meets its contract. Assumes nothing.
 use Rattle.eos.proofs.Energy.{alone-law}
+use Rattle.jet.proofs.Prefix.{div-along, is, mul-along}
 use borrow.Author.Needs.{needs}
 use Rattle.eos.proofs.helmholtz_4.alone.Statement.{statement}
 use Rattle.eos.proofs.helmholtz_4.alone.Tie as tie
@@ -55,7 +56,7 @@ mul-4-requires c κs = search needs
 returns : tie.Need-returns
 returns c =
     let a = c .before .before .before .before .before .before .before .before .before .before .before .before .before .before .before .before .args in
-    alone-law 4 (a .blend) (a .t .c) (a .v .c) (a .moles .c) (c .before .before .before .before .before .before .before .before .before .before .div-4 .result .c) (c .before .before .before .before .before .before .before .before .before .div-42 .result .c) (c .before .before .before .before .before .before .before .before .ak .result .c) (c .before .before .before .number .result .c) (c .before .before .before .before .mix-term .result .c) (c .before .before .add .result .c) (c .before .number2 .result .c) (c .mul-4 .result .c) (c .before .before .before .before .before .before .before .before .before .before .div-4 .ensures) (c .before .before .before .before .before .before .before .before .before .div-42 .ensures) (c .before .before .before .before .before .before .before .before .ak .ensures) (c .before .before .before .before .mix-term .ensures) (c .before .before .before .number .ensures) (c .before .before .add .ensures) (c .before .number2 .ensures) (c .mul-4 .ensures)
+    alone-law 4 (a .blend) (a .t .c) (a .v .c) (a .moles .c) (c .before .before .before .before .before .before .before .before .before .before .div-4 .result .c) (c .before .before .before .before .before .before .before .before .before .div-42 .result .c) (c .before .before .before .before .before .before .before .before .ak .result .c) (c .before .before .before .number .result .c) (c .before .before .before .before .mix-term .result .c) (c .before .before .add .result .c) (c .before .number2 .result .c) (c .mul-4 .result .c) (div-along _ _ _ (c .before .before .before .before .before .before .before .before .before .before .div-4 .ensures)) (div-along _ _ _ (c .before .before .before .before .before .before .before .before .before .div-42 .ensures)) (c .before .before .before .before .before .before .before .before .ak .ensures) (c .before .before .before .before .mix-term .ensures) (c .before .before .before .number .ensures) (is 4 (c .before .before .add .ensures)) (c .before .number2 .ensures) (mul-along _ _ _ (c .mul-4 .ensures))
 
 pub alone-spec : {M : Type 1} → statement M
 alone-spec =

@@ -1,5 +1,6 @@
 -- `eos::helmholtz_4::attractive` meets its contract. Assumes nothing.
 use Rattle.eos.proofs.Chain.{attraction-law}
+use Rattle.jet.proofs.Prefix.{div-along, mul-along}
 use borrow.Author.Needs.{needs}
 use Rattle.eos.proofs.helmholtz_4.attractive.Statement.{statement}
 use Rattle.eos.proofs.helmholtz_4.attractive.Tie as tie
@@ -29,7 +30,7 @@ mul-4-requires-4 : tie.Need-mul-4-requires-4
 mul-4-requires-4 c κs = search needs
 
 returns : tie.Need-returns
-returns c = attraction-law 4 (c .before .before .before .before .before .before .before .before .args .ak .c) (c .before .before .before .before .before .before .before .before .args .b .c) (c .before .before .before .before .before .before .before .before .args .t .c) (c .before .before .before .before .before .before .before .before .args .v .c) _ _ _ _ _ _ _ _ (c .before .before .before .before .before .before .before .number .ensures) (c .before .before .before .before .before .before .mul-4 .ensures) (c .before .before .before .before .before .number2 .ensures) (c .before .before .before .before .mul-42 .ensures) (c .before .before .before .mul-43 .ensures) (c .before .before .div-4 .ensures) (c .before .log-ratio .ensures) (c .mul-44 .ensures)
+returns c = attraction-law 4 (c .before .before .before .before .before .before .before .before .args .ak .c) (c .before .before .before .before .before .before .before .before .args .b .c) (c .before .before .before .before .before .before .before .before .args .t .c) (c .before .before .before .before .before .before .before .before .args .v .c) _ _ _ _ _ _ _ _ (c .before .before .before .before .before .before .before .number .ensures) (mul-along _ _ _ (c .before .before .before .before .before .before .mul-4 .ensures)) (c .before .before .before .before .before .number2 .ensures) (mul-along _ _ _ (c .before .before .before .before .mul-42 .ensures)) (mul-along _ _ _ (c .before .before .before .mul-43 .ensures)) (div-along _ _ _ (c .before .before .div-4 .ensures)) (c .before .log-ratio .ensures) (mul-along _ _ _ (c .mul-44 .ensures))
 
 pub attractive-spec : {M : Type 1} → statement M
 attractive-spec =

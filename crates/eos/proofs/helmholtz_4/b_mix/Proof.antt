@@ -2,10 +2,9 @@
 use mathlib.Core.Path.{refl, ap}
 use Prim.Native.Nat.{_-_, _≤_}
 use native.Mathlib.Omega.{arith}
-use lib.ListN.{take}
 use Rattle.jet.specs.Coefficients.{Upto, numberOf}
 use Rattle.jet.specs.Ops.{_⊞_, _⊠_}
-use Rattle.jet.proofs.Prefix.{add-upto, mul-upto}
+use Rattle.jet.proofs.Prefix.{add-upto, is, mul-along, mul-upto}
 use Rattle.eos.specs.Indices.{foldFrom, jetTotal}
 use Rattle.eos.specs.Jets.{jetAt}
 use Rattle.eos.specs.Cubic.{nth, bMix}
@@ -39,7 +38,7 @@ loop-holds c =
     let a = c .before .before .before .before .args in
     let x = a .t2 in
     let b = a .b .now in
-    let first = mul-upto 4 (jetAt x 0) (jetAt x 0) _ refl _ (numberOf (nth b 0)) (ap (take 4) (c .before .number .ensures)) (c .mul-4 .ensures) in
+    let first = mul-upto 4 (jetAt x 0) (jetAt x 0) _ refl _ (numberOf (nth b 0)) (is 4 (c .before .number .ensures)) (mul-along _ _ _ (c .mul-4 .ensures)) in
     (omega arith, fold-keeps 4 (λ s i. s ⊞ jetAt x i ⊠ numberOf (nth b i)) (adding-keeps 4 (λ i. jetAt x i ⊠ numberOf (nth b i))) (a .n - 1) 1 _ _ first)
 
 mul-mul-4 : tie.Need-mul-mul-4 Inv-loop μ-loop
@@ -76,8 +75,8 @@ loop-again c =
     let x = a .t2 in
     let b = a .b .now in
     let i = l .loop .i in
-    let term = mul-upto 4 (jetAt x i) (jetAt x i) _ refl _ (numberOf (nth b i)) (ap (take 4) (c .before .before .number2 .ensures)) (c .before .mul-42 .ensures) in
-    let sum = add-upto 4 (l .loop .m .c) (l .loop .m .c) _ refl _ (jetAt x i ⊠ numberOf (nth b i)) term (c .add .ensures) in
+    let term = mul-upto 4 (jetAt x i) (jetAt x i) _ refl _ (numberOf (nth b i)) (is 4 (c .before .before .number2 .ensures)) (mul-along _ _ _ (c .before .mul-42 .ensures)) in
+    let sum = add-upto 4 (l .loop .m .c) (l .loop .m .c) _ refl _ (jetAt x i ⊠ numberOf (nth b i)) term (is 4 (c .add .ensures)) in
     (omega arith, upto-turn 4 (λ s i. s ⊞ jetAt x i ⊠ numberOf (nth b i)) (adding-keeps 4 (λ i. jetAt x i ⊠ numberOf (nth b i))) (a .n) i (l .loop .m .c) (c .add .result .c) (bMix (a .n) (jetAt x) (nth b)) (omega arith) sum (l .loop .inv .1))
 
 returns : tie.Need-returns Inv-loop μ-loop

@@ -2,10 +2,10 @@
 use mathlib.Core.Path.{_≡_, refl, ap, _∙_}
 use Prim.Native.Nat.{ℕ, _-_, _≤_, _<_}
 use native.Mathlib.Omega.{arith}
-use lib.ListN.{length, length-set, take}
+use lib.ListN.{length, length-set}
 use Rattle.jet.specs.Coefficients.{Upto, numberOf}
 use Rattle.jet.specs.Ops.{_⧄_}
-use Rattle.jet.proofs.Prefix.{div-upto}
+use Rattle.jet.proofs.Prefix.{div-along, div-upto, is}
 use Rattle.eos.specs.Jets.{jetAt}
 use Rattle.eos.specs.Cubic.{nth}
 use Rattle.eos.proofs.Totals.{put-turn}
@@ -56,7 +56,7 @@ loop-again c =
     let i = l .loop .i in (
       omega arith,
       length-set (l .loop .out) i _ ∙ l .loop .inv .1,
-      put-turn (λ k r. Upto 4 r (numberOf (nth (a .moles .now) k) ⧄ a .v .c)) (l .loop .out) i _ (omega arith) (l .loop .inv .2) (div-upto 4 (c .before .number2 .result .c) (numberOf (nth (a .moles .now) i)) _ (ap (take 4) (c .before .number2 .ensures)) (a .v .c) (a .v .c) refl (c .div-4 .ensures)),
+      put-turn (λ k r. Upto 4 r (numberOf (nth (a .moles .now) k) ⧄ a .v .c)) (l .loop .out) i _ (omega arith) (l .loop .inv .2) (div-upto 4 (c .before .number2 .result .c) (numberOf (nth (a .moles .now) i)) _ (is 4 (c .before .number2 .ensures)) (a .v .c) (a .v .c) refl (div-along _ _ _ (c .div-4 .ensures))),
     )
 
 returns : tie.Need-returns Inv-loop μ-loop

@@ -1,5 +1,6 @@
 -- `eos::helmholtz_4::log_ratio` meets its contract. Assumes nothing.
 use Rattle.eos.proofs.Chain.{log-ratio-law}
+use Rattle.jet.proofs.Prefix.{div-along, is, ln-along, mul-along}
 use borrow.Author.Needs.{needs}
 use Rattle.eos.proofs.helmholtz_4.log_ratio.Statement.{statement}
 use Rattle.eos.proofs.helmholtz_4.log_ratio.Tie as tie
@@ -29,7 +30,7 @@ ln-4-requires : tie.Need-ln-4-requires
 ln-4-requires c κs = search needs
 
 returns : tie.Need-returns
-returns c = log-ratio-law 4 (c .before .before .before .before .before .before .before .before .args .v .c) (c .before .before .before .before .before .before .before .before .args .b .c) _ _ _ _ _ _ _ _ (c .before .before .before .before .before .before .before .number .ensures) (c .before .before .before .before .before .before .mul-4 .ensures) (c .before .before .before .before .before .add .ensures) (c .before .before .before .before .number2 .ensures) (c .before .before .before .mul-42 .ensures) (c .before .before .add2 .ensures) (c .before .div-4 .ensures) (c .ln-4 .ensures)
+returns c = log-ratio-law 4 (c .before .before .before .before .before .before .before .before .args .v .c) (c .before .before .before .before .before .before .before .before .args .b .c) _ _ _ _ _ _ _ _ (c .before .before .before .before .before .before .before .number .ensures) (mul-along _ _ _ (c .before .before .before .before .before .before .mul-4 .ensures)) (is 4 (c .before .before .before .before .before .add .ensures)) (c .before .before .before .before .number2 .ensures) (mul-along _ _ _ (c .before .before .before .mul-42 .ensures)) (is 4 (c .before .before .add2 .ensures)) (div-along _ _ _ (c .before .div-4 .ensures)) (ln-along _ _ (c .ln-4 .ensures))
 
 pub log-ratio-spec : {M : Type 1} → statement M
 log-ratio-spec =

@@ -5,7 +5,7 @@ use native.Mathlib.Omega.{arith}
 use lib.ListN.{length, length-set}
 use Rattle.jet.specs.Coefficients.{Upto}
 use Rattle.jet.specs.Ops.{_⧄_}
-use Rattle.jet.proofs.Prefix.{div-upto}
+use Rattle.jet.proofs.Prefix.{div-along, div-upto}
 use Rattle.eos.specs.Jets.{jetAt}
 use Rattle.eos.proofs.Totals.{put-turn}
 use borrow.Author.Needs.{needs}
@@ -52,7 +52,7 @@ loop-again c =
     let i = l .loop .i in (
       omega arith,
       length-set (l .loop .out) i _ ∙ l .loop .inv .1,
-      put-turn (λ k r. Upto 4 r (jetAt (a .t2) k ⧄ a .d .c)) (l .loop .out) i _ (omega arith) (l .loop .inv .2) (div-upto 4 (jetAt (a .t2) i) (jetAt (a .t2) i) _ refl (a .d .c) (a .d .c) refl (c .div-4 .ensures)),
+      put-turn (λ k r. Upto 4 r (jetAt (a .t2) k ⧄ a .d .c)) (l .loop .out) i _ (omega arith) (l .loop .inv .2) (div-upto 4 (jetAt (a .t2) i) (jetAt (a .t2) i) _ refl (a .d .c) (a .d .c) refl (div-along _ _ _ (c .div-4 .ensures))),
     )
 
 returns : tie.Need-returns Inv-loop μ-loop

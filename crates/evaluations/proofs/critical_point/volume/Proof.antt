@@ -10,12 +10,12 @@ number-requires c κs = search needs
 marked-requires : tie.Need-marked-requires
 marked-requires c κs = search needs
 
-div-12-requires : tie.Need-div-12-requires
-div-12-requires c κs = search needs
+div-requires : tie.Need-div-requires
+div-requires c κs = search needs
 
 returns : tie.Need-returns
 returns c =
-    volume-law (c .before .before .before .args .density) _ _ _ (c .before .before .number .ensures) (c .before .marked .ensures) (c .div-12 .ensures)
+    volume-law (c .before .before .before .args .density) _ _ _ (c .before .before .number .ensures) (c .before .marked .ensures) (c .div .ensures)
 
 pub volume-spec : {M : Type 1} → statement M
-volume-spec = tie.close (tie.spec number-requires marked-requires div-12-requires returns)
+volume-spec = tie.close (tie.spec number-requires marked-requires div-requires returns)

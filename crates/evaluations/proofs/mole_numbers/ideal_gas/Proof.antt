@@ -10,18 +10,18 @@ array-read-if1 c = search needs
 number-requires : tie.Need-number-requires
 number-requires c κs = search needs
 
-mul-12-requires : tie.Need-mul-12-requires
-mul-12-requires c κs = search needs
+mul-requires : tie.Need-mul-requires
+mul-requires c κs = search needs
 
 returns : tie.Need-returns
 returns c =
-    none-law (c .before .before .before .before .args .n .c) (c .before .before .before .before .args .v .c) _ _ (c .before .before .if1 .taken) (c .before .number .ensures) (c .mul-12 .ensures)
+    none-law _ (c .before .before .before .before .args .n .c) (c .before .before .before .before .args .v .c) _ _ (c .before .before .if1 .taken) (c .before .number .ensures) (c .mul .ensures)
 
-div-12-requires : tie.Need-div-12-requires
-div-12-requires c κs = search needs
+div-requires : tie.Need-div-requires
+div-requires c κs = search needs
 
-ln-12-requires : tie.Need-ln-12-requires
-ln-12-requires c κs = search needs
+ln-requires : tie.Need-ln-requires
+ln-requires c κs = search needs
 
 number-requires-2 : tie.Need-number-requires-2
 number-requires-2 c κs = search needs
@@ -29,12 +29,12 @@ number-requires-2 c κs = search needs
 sub-requires : tie.Need-sub-requires
 sub-requires c κs = search needs
 
-mul-12-requires-2 : tie.Need-mul-12-requires-2
-mul-12-requires-2 c κs = search needs
+mul-requires-2 : tie.Need-mul-requires-2
+mul-requires-2 c κs = search needs
 
 returns-2 : tie.Need-returns-2
 returns-2 c =
-    some-law (c .before .before .before .before .before .before .before .args .n .c) (c .before .before .before .before .before .before .before .args .v .c) _ _ _ _ _ (c .before .before .before .before .before .if1 .left) (c .before .before .before .before .div-12 .ensures) (c .before .before .before .ln-12 .ensures) (c .before .before .number2 .ensures) (c .before .sub .ensures) (c .mul-122 .ensures)
+    some-law _ (c .before .before .before .before .before .before .before .args .n .c) (c .before .before .before .before .before .before .before .args .v .c) _ _ _ _ _ (c .before .before .before .before .before .if1 .left) (c .before .before .before .before .div .ensures) (c .before .before .before .ln .ensures) (c .before .before .number2 .ensures) (c .before .sub .ensures) (c .mul2 .ensures)
 
 pub ideal-gas-spec : {M : Type 1} → statement M
 ideal-gas-spec =
@@ -42,11 +42,11 @@ ideal-gas-spec =
     (tie.spec
     array-read-if1
     number-requires
-    mul-12-requires
+    mul-requires
     returns
-    div-12-requires
-    ln-12-requires
+    div-requires
+    ln-requires
     number-requires-2
     sub-requires
-    mul-12-requires-2
+    mul-requires-2
     returns-2)

@@ -13,7 +13,7 @@ div-12-requires c κs = search needs
 returns : tie.Need-returns
 returns c =
     let a = c .before .before .args in
-    energy-law (a .blend) (a .t .c) (a .v .c) 1 (λ i. a .n .c) (c .before .helmholtz-of-one .result .c) _ (c .before .helmholtz-of-one .ensures) (c .div-12 .ensures)
+    energy-law 12 (a .blend) (a .t .c) (a .v .c) 1 (λ i. a .n .c) (c .before .helmholtz-of-one .result .c) _ (c .before .helmholtz-of-one .ensures) (c .div-12 .ensures)
 
 pub energy-over-t-spec : {M : Type 1} → statement M
 energy-over-t-spec = tie.close (tie.spec helmholtz-of-one-requires div-12-requires returns)

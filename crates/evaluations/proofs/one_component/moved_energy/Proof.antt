@@ -1,6 +1,5 @@
 -- `evaluations::one_component::moved_energy` meets its contract. Assumes nothing.
-use mathlib.Core.Path.{ap, _∙_}
-use lib.ListN.{take}
+use mathlib.Core.Path.{_∙_}
 use Rattle.evaluations.proofs.CriticalLaws.{moved-energy-law}
 use Rattle.evaluations.proofs.One.{moved-by-mark}
 use borrow.Author.Needs.{needs}
@@ -17,7 +16,7 @@ returns : tie.Need-returns
 returns c =
     let s = c .before .before .before in
     let a = s .args in
-    moved-energy-law (a .blend) (a .t .c) (a .v .c) (a .n .c) (a .e .c) (s .pre .0 ∙ ap (take 12) (moved-by-mark _ (c .before .is-one .ensures .1 (c .if1 .taken)))) (s .pre .1)
+    moved-energy-law (a .blend) (a .t .c) (a .v .c) (a .n .c) (a .e .c) (s .pre .0 ∙ moved-by-mark _ (c .before .is-one .ensures .1 (c .if1 .taken))) (s .pre .1)
 
 energy-over-t-requires : tie.Need-energy-over-t-requires
 energy-over-t-requires c κs = search needs

@@ -4,11 +4,14 @@ use borrow.Author.Needs.{needs}
 use Rattle.evaluations.proofs.one_component.smallest.Statement.{statement}
 use Rattle.evaluations.proofs.one_component.smallest.Tie as tie
 
-array-read-sqrt-z : tie.Need-array-read-sqrt-z
-array-read-sqrt-z c = search needs
+array-read-number : tie.Need-array-read-number
+array-read-number c = search needs
 
-sqrt-z-requires : tie.Need-sqrt-z-requires
-sqrt-z-requires c κs = search needs
+number-requires : tie.Need-number-requires
+number-requires c κs = search needs
+
+sqrt-12-requires : tie.Need-sqrt-12-requires
+sqrt-12-requires c κs = search needs
 
 derivative-requires : tie.Need-derivative-requires
 derivative-requires c κs = search needs
@@ -18,11 +21,17 @@ entry-requires c κs = search needs
 
 returns : tie.Need-returns
 returns c =
-    let s = c .before .before .before .before in
+    let s = c .before .before .before .before .before in
     let a = s .args in
-    smallest-of-one (a .blend) (a .t .c) (a .v .c) (a .e .c) _ (c .before .before .sqrt-z .result .c) (c .entry .result .c) (s .pre) (c .before .before .sqrt-z .ensures) (c .before .derivative .ensures) (c .entry .ensures)
+    smallest-of-one (a .blend) (a .t .c) (a .v .c) (a .e .c) _ _ (c .before .before .sqrt-12 .result .c) (c .entry .result .c) (s .pre) (c .before .before .before .number .ensures) (c .before .before .sqrt-12 .ensures) (c .before .derivative .ensures) (c .entry .ensures)
 
 pub smallest-spec : {M : Type 1} → statement M
 smallest-spec =
     tie.close
-    (tie.spec array-read-sqrt-z sqrt-z-requires derivative-requires entry-requires returns)
+    (tie.spec
+    array-read-number
+    number-requires
+    sqrt-12-requires
+    derivative-requires
+    entry-requires
+    returns)

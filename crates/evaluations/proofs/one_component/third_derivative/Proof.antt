@@ -25,7 +25,7 @@ derivative-requires c κs = search needs
 returns : tie.Need-returns
 returns c =
     let a = c .before .before .before .before .before .before .args in
-    third-of-one (a .blend) (a .t .c) (a .v .c) (c .before .before .before .before .moved-along-one .result .c) (c .before .before .before .moved-energy .result .c) (c .before .before .ideal-gas .result .c) _ _ (c .before .before .before .before .moved-along-one .ensures) (c .before .before .before .moved-energy .ensures) (c .before .before .ideal-gas .ensures) (c .before .add .ensures) (c .derivative .ensures)
+    third-of-one (a .blend) (a .t .c) (a .v .c) _ _ _ _ _ (c .before .before .before .before .moved-along-one .ensures) (c .before .before .before .moved-energy .ensures) (c .before .before .ideal-gas .ensures) (c .before .add .ensures) (c .derivative .ensures)
 
 pub third-derivative-spec : {M : Type 1} → statement M
 third-derivative-spec =

@@ -4,17 +4,11 @@ use borrow.Author.Needs.{needs}
 use Rattle.evaluations.proofs.two_components.matrix.Statement.{statement}
 use Rattle.evaluations.proofs.two_components.matrix.Tie as tie
 
-array-read-sqrt-z : tie.Need-array-read-sqrt-z
-array-read-sqrt-z c = search needs
+sqrt-requires : tie.Need-sqrt-requires
+sqrt-requires c κs = search needs
 
-sqrt-z-requires : tie.Need-sqrt-z-requires
-sqrt-z-requires c κs = search needs
-
-array-read-sqrt-z-2 : tie.Need-array-read-sqrt-z-2
-array-read-sqrt-z-2 c = search needs
-
-sqrt-z-requires-2 : tie.Need-sqrt-z-requires-2
-sqrt-z-requires-2 c κs = search needs
+sqrt-requires-2 : tie.Need-sqrt-requires-2
+sqrt-requires-2 c κs = search needs
 
 dmu-dn-requires : tie.Need-dmu-dn-requires
 dmu-dn-requires c κs = search needs
@@ -30,17 +24,16 @@ entry-requires-3 c κs = search needs
 
 returns : tie.Need-returns
 returns c =
-    let a = c .before .before .before .before .before .before .before .before .before .before .args in
-    matrix-law (a .blend) (a .t .c) (a .v .c) _ (c .before .before .before .before .before .before .dmu-dn .result) (c .before .before .before .before .before .before .before .before .sqrt-z .result .c) (c .before .before .before .before .before .before .before .sqrt-z2 .result .c) (c .before .before .before .before .before .before .before .before .sqrt-z .ensures) (c .before .before .before .before .before .before .before .sqrt-z2 .ensures) (c .before .before .before .before .before .before .dmu-dn .ensures) (c .before .before .entry .ensures) (c .before .entry2 .ensures) (c .entry3 .ensures)
+    let s = c .before .before .before .before .before .before .before .before .before in
+    let a = s .args in
+    matrix-law (a .w) (s .pre .0) (a .blend) (a .t .c) (a .v .c) (a .z1 .c) (a .z2 .c) _ (c .before .before .before .before .before .before .dmu-dn .result) (c .before .before .before .before .before .before .before .before .sqrt .result .c) (c .before .before .before .before .before .before .before .sqrt2 .result .c) (c .before .before .before .before .before .before .before .before .sqrt .ensures) (c .before .before .before .before .before .before .before .sqrt2 .ensures) (c .before .before .before .before .before .before .dmu-dn .ensures) (c .before .before .entry .ensures) (c .before .entry2 .ensures) (c .entry3 .ensures)
 
 pub matrix-spec : {M : Type 1} → statement M
 matrix-spec =
     tie.close
     (tie.spec
-    array-read-sqrt-z
-    sqrt-z-requires
-    array-read-sqrt-z-2
-    sqrt-z-requires-2
+    sqrt-requires
+    sqrt-requires-2
     dmu-dn-requires
     entry-requires
     entry-requires-2

@@ -12,8 +12,9 @@ derivative-requires c κs = search needs
 
 returns : tie.Need-returns
 returns c =
-    let a = c .before .before .args in
-    second-derivative-law (a .blend) (a .t .c) (a .v .c) (a .n1 .c) (a .n2 .c) (c .before .energy-over-t .result .c) _ (c .before .energy-over-t .ensures) (c .derivative .ensures)
+    let s = c .before .before in
+    let a = s .args in
+    second-derivative-law (a .w) (s .pre .0) (a .blend) (a .t .c) (a .v .c) (a .n1 .c) (a .n2 .c) _ _ (c .before .energy-over-t .ensures) (c .derivative .ensures)
 
 pub second-spec : {M : Type 1} → statement M
 second-spec = tie.close (tie.spec energy-over-t-requires derivative-requires returns)

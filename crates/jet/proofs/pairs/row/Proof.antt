@@ -5,6 +5,9 @@ use Rattle.jet.proofs.Table.{rows-are, table-end}
 use Rattle.jet.proofs.pairs.row.Statement.{statement}
 use Rattle.jet.proofs.pairs.row.Tie as tie
 
+mul-result : tie.Need-mul-result
+mul-result c = search needs
+
 array-read-result : tie.Need-array-read-result
 array-read-result c = search needs
 
@@ -15,4 +18,4 @@ returns : tie.Need-returns
 returns c = rows-are (c .args .m) (c .pre)
 
 pub row-spec : {M : Type 1} → statement M
-row-spec = tie.close (tie.spec array-read-result cast-result returns)
+row-spec = tie.close (tie.spec mul-result array-read-result cast-result returns)

@@ -10,20 +10,20 @@ sub-requires c κs = search needs
 number-requires : tie.Need-number-requires
 number-requires c κs = search needs
 
-mul-12-requires : tie.Need-mul-12-requires
-mul-12-requires c κs = search needs
+mul-requires : tie.Need-mul-requires
+mul-requires c κs = search needs
 
-mul-12-requires-2 : tie.Need-mul-12-requires-2
-mul-12-requires-2 c κs = search needs
+mul-requires-2 : tie.Need-mul-requires-2
+mul-requires-2 c κs = search needs
 
-mul-12-requires-3 : tie.Need-mul-12-requires-3
-mul-12-requires-3 c κs = search needs
+mul-requires-3 : tie.Need-mul-requires-3
+mul-requires-3 c κs = search needs
 
 add-requires : tie.Need-add-requires
 add-requires c κs = search needs
 
-sqrt-12-requires : tie.Need-sqrt-12-requires
-sqrt-12-requires c κs = search needs
+sqrt-requires : tie.Need-sqrt-requires
+sqrt-requires c κs = search needs
 
 add-requires-2 : tie.Need-add-requires-2
 add-requires-2 c κs = search needs
@@ -34,13 +34,13 @@ sub-requires-2 c κs = search needs
 number-requires-2 : tie.Need-number-requires-2
 number-requires-2 c κs = search needs
 
-mul-12-requires-4 : tie.Need-mul-12-requires-4
-mul-12-requires-4 c κs = search needs
+mul-requires-4 : tie.Need-mul-requires-4
+mul-requires-4 c κs = search needs
 
 returns : tie.Need-returns
 returns c =
     let a = c .before .before .before .before .before .before .before .before .before .before .before .args in
-    smallest-law 12 (a .m11 .c) (a .m12 .c) (a .m22 .c) _ _ _ _ _ _ _ _ _ _ _ (c .before .before .before .before .before .before .before .before .before .before .sub .ensures) (c .before .before .before .before .before .before .before .before .before .number .ensures) (c .before .before .before .before .before .before .before .before .mul-12 .ensures) (c .before .before .before .before .before .before .before .mul-122 .ensures) (c .before .before .before .before .before .before .mul-123 .ensures) (c .before .before .before .before .before .add .ensures) (c .before .before .before .before .sqrt-12 .ensures) (c .before .before .before .add2 .ensures) (c .before .before .sub2 .ensures) (c .before .number2 .ensures) (c .mul-124 .ensures)
+    smallest-law _ (a .m11 .c) (a .m12 .c) (a .m22 .c) _ _ _ _ _ _ _ _ _ _ _ (c .before .before .before .before .before .before .before .before .before .before .sub .ensures) (c .before .before .before .before .before .before .before .before .before .number .ensures) (c .before .before .before .before .before .before .before .before .mul .ensures) (c .before .before .before .before .before .before .before .mul2 .ensures) (c .before .before .before .before .before .before .mul3 .ensures) (c .before .before .before .before .before .add .ensures) (c .before .before .before .before .sqrt .ensures) (c .before .before .before .add2 .ensures) (c .before .before .sub2 .ensures) (c .before .number2 .ensures) (c .mul4 .ensures)
 
 pub smallest-spec : {M : Type 1} → statement M
 smallest-spec =
@@ -48,13 +48,13 @@ smallest-spec =
     (tie.spec
     sub-requires
     number-requires
-    mul-12-requires
-    mul-12-requires-2
-    mul-12-requires-3
+    mul-requires
+    mul-requires-2
+    mul-requires-3
     add-requires
-    sqrt-12-requires
+    sqrt-requires
     add-requires-2
     sub-requires-2
     number-requires-2
-    mul-12-requires-4
+    mul-requires-4
     returns)

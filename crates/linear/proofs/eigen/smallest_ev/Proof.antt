@@ -24,7 +24,7 @@ number-requires-2 c κs = search needs
 
 returns : tie.Need-returns
 returns c =
-    first-unit-law 12 _ _ _ _ (c .before .before .before .before .before .before .before .smallest .ensures) (c .before .before .before .before .before .if1 .taken) (c .before .before .if2 .taken) (c .before .number .ensures) (c .number2 .ensures)
+    first-unit-law _ _ _ _ _ (c .before .before .before .before .before .before .before .smallest .ensures) (c .before .before .before .before .before .if1 .taken) (c .before .before .if2 .taken) (c .before .number .ensures) (c .number2 .ensures)
 
 number-requires-3 : tie.Need-number-requires-3
 number-requires-3 c κs = search needs
@@ -34,7 +34,7 @@ number-requires-4 c κs = search needs
 
 returns-2 : tie.Need-returns-2
 returns-2 c =
-    second-unit-law 12 _ _ _ _ (c .before .before .before .before .before .before .before .smallest .ensures) (c .before .before .before .before .before .if1 .taken) (c .before .before .if2 .left) (c .before .number3 .ensures) (c .number4 .ensures)
+    second-unit-law _ _ _ _ _ (c .before .before .before .before .before .before .before .smallest .ensures) (c .before .before .before .before .before .if1 .taken) (c .before .before .if2 .left) (c .before .number3 .ensures) (c .number4 .ensures)
 
 sub-requires : tie.Need-sub-requires
 sub-requires c κs = search needs
@@ -42,15 +42,15 @@ sub-requires c κs = search needs
 length-requires : tie.Need-length-requires
 length-requires c κs = search needs
 
-div-12-requires : tie.Need-div-12-requires
-div-12-requires c κs = search needs
+div-requires : tie.Need-div-requires
+div-requires c κs = search needs
 
-div-12-requires-2 : tie.Need-div-12-requires-2
-div-12-requires-2 c κs = search needs
+div-requires-2 : tie.Need-div-requires-2
+div-requires-2 c κs = search needs
 
 returns-3 : tie.Need-returns-3
 returns-3 c =
-    scaled-law 12 _ _ _ _ (c .before .before .before .before .before .before .smallest .ensures) _ _ (c .before .before .before .before .if1 .left) (c .before .before .before .sub .ensures) (c .before .before .length .ensures) (c .before .div-12 .ensures) (c .div-122 .ensures)
+    scaled-law _ _ _ _ _ (c .before .before .before .before .before .before .smallest .ensures) _ _ (c .before .before .before .before .if1 .left) (c .before .before .before .sub .ensures) (c .before .before .length .ensures) (c .before .div .ensures) (c .div2 .ensures)
 
 pub smallest-ev-spec : {M : Type 1} → statement M
 smallest-ev-spec =
@@ -68,6 +68,6 @@ smallest-ev-spec =
     returns-2
     sub-requires
     length-requires
-    div-12-requires
-    div-12-requires-2
+    div-requires
+    div-requires-2
     returns-3)

@@ -64,6 +64,24 @@ spinodal-requires c κs = search needs
 ended-requires-6 : tie.Need-ended-requires-6
 ended-requires-6 c κs = search needs
 
+enum-known-task-8 : tie.Need-enum-known-task-8
+enum-known-task-8 c = search needs
+
+critical-point-binary-t-requires : tie.Need-critical-point-binary-t-requires
+critical-point-binary-t-requires c κs = search needs
+
+ended-requires-7 : tie.Need-ended-requires-7
+ended-requires-7 c κs = search needs
+
+enum-known-task-9 : tie.Need-enum-known-task-9
+enum-known-task-9 c = search needs
+
+critical-point-binary-p-requires : tie.Need-critical-point-binary-p-requires
+critical-point-binary-p-requires c κs = search needs
+
+ended-requires-8 : tie.Need-ended-requires-8
+ended-requires-8 c κs = search needs
+
 returns : tie.Need-returns
 unfolding outcomeOf courseOf endOf
 returns c = rw (c .before .before .task .given .1, ← c .refused .ensures)
@@ -92,6 +110,14 @@ returns-7 : tie.Need-returns-7
 unfolding outcomeOf courseOf endOf
 returns-7 c = rw (c .before .before .before .task7 .given .1, ← c .before .spinodal .ensures, ← c .ended6 .ensures)
 
+returns-8 : tie.Need-returns-8
+unfolding outcomeOf courseOf endOf
+returns-8 c = rw (c .before .before .before .task8 .given .1, ← c .before .critical-point-binary-t .ensures, ← c .ended7 .ensures)
+
+returns-9 : tie.Need-returns-9
+unfolding outcomeOf courseOf endOf
+returns-9 c = rw (c .before .before .before .task9 .given .1, ← c .before .critical-point-binary-p .ensures, ← c .ended8 .ensures)
+
 pub run-job-spec : {M : Type 1} → statement M
 run-job-spec =
     tie.close
@@ -116,10 +142,18 @@ run-job-spec =
     enum-known-task-7
     spinodal-requires
     ended-requires-6
+    enum-known-task-8
+    critical-point-binary-t-requires
+    ended-requires-7
+    enum-known-task-9
+    critical-point-binary-p-requires
+    ended-requires-8
     returns
     returns-2
     returns-3
     returns-4
     returns-5
     returns-6
-    returns-7)
+    returns-7
+    returns-8
+    returns-9)

@@ -61,6 +61,24 @@ spinodals-begin-requires c κs = search needs
 spinodals-numbers-requires : tie.Need-spinodals-numbers-requires
 spinodals-numbers-requires c κs = search needs
 
+enum-known-job-7 : tie.Need-enum-known-job-7
+enum-known-job-7 c = search needs
+
+temperature-begin-requires : tie.Need-temperature-begin-requires
+temperature-begin-requires c κs = search needs
+
+temperature-numbers-requires : tie.Need-temperature-numbers-requires
+temperature-numbers-requires c κs = search needs
+
+enum-known-job-8 : tie.Need-enum-known-job-8
+enum-known-job-8 c = search needs
+
+pressure-begin-requires : tie.Need-pressure-begin-requires
+pressure-begin-requires c κs = search needs
+
+pressure-numbers-requires : tie.Need-pressure-numbers-requires
+pressure-numbers-requires c κs = search needs
+
 returns : tie.Need-returns
 unfolding beginOf
 returns c = rw (c .before .before .before .job .given .1, ← c .before .density-begin .ensures, ← c .density-numbers .ensures)
@@ -85,6 +103,14 @@ returns-6 : tie.Need-returns-6
 unfolding beginOf
 returns-6 c = rw (c .before .before .before .job6 .given .1, ← c .before .spinodals-begin .ensures, ← c .spinodals-numbers .ensures)
 
+returns-7 : tie.Need-returns-7
+unfolding beginOf
+returns-7 c = rw (c .before .before .before .job7 .given .1, ← c .before .temperature-begin .ensures, ← c .temperature-numbers .ensures)
+
+returns-8 : tie.Need-returns-8
+unfolding beginOf
+returns-8 c = rw (c .before .before .before .job8 .given .1, ← c .before .pressure-begin .ensures, ← c .pressure-numbers .ensures)
+
 pub begin-spec : {M : Type 1} → statement M
 begin-spec =
     tie.close
@@ -108,9 +134,17 @@ begin-spec =
     enum-known-job-6
     spinodals-begin-requires
     spinodals-numbers-requires
+    enum-known-job-7
+    temperature-begin-requires
+    temperature-numbers-requires
+    enum-known-job-8
+    pressure-begin-requires
+    pressure-numbers-requires
     returns
     returns-2
     returns-3
     returns-4
     returns-5
-    returns-6)
+    returns-6
+    returns-7
+    returns-8)

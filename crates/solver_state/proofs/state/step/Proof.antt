@@ -43,6 +43,18 @@ enum-known-job-6 c = search needs
 spinodals-step-requires : tie.Need-spinodals-step-requires
 spinodals-step-requires c κs = search needs
 
+enum-known-job-7 : tie.Need-enum-known-job-7
+enum-known-job-7 c = search needs
+
+temperature-step-requires : tie.Need-temperature-step-requires
+temperature-step-requires c κs = search needs
+
+enum-known-job-8 : tie.Need-enum-known-job-8
+enum-known-job-8 c = search needs
+
+pressure-step-requires : tie.Need-pressure-step-requires
+pressure-step-requires c κs = search needs
+
 returns : tie.Need-returns
 unfolding stepOf
 returns c = rw (c .before .before .job .given .1, ← c .density-step .ensures)
@@ -67,6 +79,14 @@ returns-6 : tie.Need-returns-6
 unfolding stepOf
 returns-6 c = rw (c .before .before .job6 .given .1, ← c .spinodals-step .ensures)
 
+returns-7 : tie.Need-returns-7
+unfolding stepOf
+returns-7 c = rw (c .before .before .job7 .given .1, ← c .temperature-step .ensures)
+
+returns-8 : tie.Need-returns-8
+unfolding stepOf
+returns-8 c = rw (c .before .before .job8 .given .1, ← c .pressure-step .ensures)
+
 pub step-spec : {M : Type 1} → statement M
 step-spec =
     tie.close
@@ -84,9 +104,15 @@ step-spec =
     critical-step-requires
     enum-known-job-6
     spinodals-step-requires
+    enum-known-job-7
+    temperature-step-requires
+    enum-known-job-8
+    pressure-step-requires
     returns
     returns-2
     returns-3
     returns-4
     returns-5
-    returns-6)
+    returns-6
+    returns-7
+    returns-8)

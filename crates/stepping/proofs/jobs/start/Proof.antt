@@ -4,9 +4,6 @@ use Rattle.stepping.specs.Stepping.{startOf}
 use Rattle.stepping.proofs.jobs.start.Statement.{statement}
 use Rattle.stepping.proofs.jobs.start.Tie as tie
 
-compute-max-density-requires : tie.Need-compute-max-density-requires
-compute-max-density-requires c κs = search needs
-
 work-requires : tie.Need-work-requires
 work-requires c κs = search needs
 
@@ -15,8 +12,8 @@ start-by-requires c κs = search needs
 
 returns : tie.Need-returns
 unfolding startOf
-returns c = rw (← c .before .before .compute-max-density .ensures, ← c .before .work .ensures, ← c .start-by .ensures)
+returns c = rw (← c .before .work .ensures, ← c .start-by .ensures)
 
 pub start-spec : {M : Type 1} → statement M
 start-spec =
-    tie.close (tie.spec compute-max-density-requires work-requires start-by-requires returns)
+    tie.close (tie.spec work-requires start-by-requires returns)

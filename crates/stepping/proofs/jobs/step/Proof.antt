@@ -4,9 +4,6 @@ use Rattle.stepping.specs.Stepping.{stepOf}
 use Rattle.stepping.proofs.jobs.step.Statement.{statement}
 use Rattle.stepping.proofs.jobs.step.Tie as tie
 
-compute-max-density-requires : tie.Need-compute-max-density-requires
-compute-max-density-requires c κs = search needs
-
 work-requires : tie.Need-work-requires
 work-requires c κs = search needs
 
@@ -15,8 +12,8 @@ step-by-requires c κs = search needs
 
 returns : tie.Need-returns
 unfolding stepOf
-returns c = rw (← c .before .before .compute-max-density .ensures, ← c .before .work .ensures, ← c .step-by .ensures)
+returns c = rw (← c .before .work .ensures, ← c .step-by .ensures)
 
 pub step-spec : {M : Type 1} → statement M
 step-spec =
-    tie.close (tie.spec compute-max-density-requires work-requires step-by-requires returns)
+    tie.close (tie.spec work-requires step-by-requires returns)

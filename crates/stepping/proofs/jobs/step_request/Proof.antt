@@ -14,9 +14,6 @@ searched-count-requires c κs = search needs
 blend-requires : tie.Need-blend-requires
 blend-requires c κs = search needs
 
-compute-max-density-requires : tie.Need-compute-max-density-requires
-compute-max-density-requires c κs = search needs
-
 work-requires : tie.Need-work-requires
 work-requires c κs = search needs
 
@@ -28,8 +25,8 @@ step-by-requires c κs = search needs
 
 returns : tie.Need-returns
 returns c =
-    let A = c .before .before .before .before .before .before .before .before .before .before .before .before .before .before .before .before .before .before .before .before .args in
-    step-read (A .begun) (A .stored) (view (A .kind) (A .n) (A .block .now)) _ _ _ _ _ _ _ (c .before .before .before .before .before .before .before .before .before .before .before .before .read .ensures) (rw (c .before .before .before .before .before .before .before .before .before .before .before .searched-count .ensures) at (c .before .before .before .before .blend .ensures)) (c .before .before .before .compute-max-density .ensures) (c .before .before .work .ensures) (c .before .state-of .ensures) (c .step-by .ensures)
+    let A = c .before .before .before .before .before .before .before .before .before .before .before .before .before .before .before .before .before .before .before .args in
+    step-read (A .begun) (A .stored) (view (A .kind) (A .n) (A .block .now)) _ _ _ _ _ _ (c .before .before .before .before .before .before .before .before .before .before .before .read .ensures) (rw (c .before .before .before .before .before .before .before .before .before .before .searched-count .ensures) at (c .before .before .before .blend .ensures)) (c .before .before .work .ensures) (c .before .state-of .ensures) (c .step-by .ensures)
 
 pub step-request-spec : {M : Type 1} → statement M
 step-request-spec =
@@ -38,7 +35,6 @@ step-request-spec =
     read-requires
     searched-count-requires
     blend-requires
-    compute-max-density-requires
     work-requires
     state-of-requires
     step-by-requires

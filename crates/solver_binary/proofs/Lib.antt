@@ -1,0 +1,4 @@
+pub mod Newton
+pub mod Settles
+pub mod Spans
+pub mod Rule

@@ -1,0 +1,2 @@
+pub mod CriticalPointBinary
+pub mod Rounds

@@ -1,0 +1,4 @@
+pub mod Places
+pub mod BinaryLaw
+pub mod StoredBack
+pub mod Ranges

@@ -1,0 +1,2 @@
+pub mod BinaryStep
+pub mod Stored
