@@ -1,11 +1,11 @@
 -- The formulas of cubic.rs on jets, worked out one operation after the other in the first w coefficients. Each law names the jets that a function
 -- makes on its way and says what the last one is. Assumes nothing.
-use mathlib.Core.Path.{_≡_, refl, ap, _∙_}
+use mathlib.Core.Path.{_≡_, refl, _∙_}
 use Prim.Native.Nat.{ℕ}
 use mathlib.Core.List.{List}
 use lib.Ieee.{Float}
 use Rattle.float.specs.Ops.{_⊕_, _⊖_, f1, f2}
-use Rattle.jet.specs.Coefficients.{Upto, cut, numberOf, sumOf, differenceOf, productOf, quotientOf, recipOf, squareOf, rootOf, logarithmOf}
+use Rattle.jet.specs.Coefficients.{Upto, numberOf, sumOf, differenceOf, productOf, quotientOf, recipOf, squareOf, rootOf, logarithmOf}
 use Rattle.jet.specs.Ops.{_⊞_, _⊟_, _⊠_, _⧄_}
 use Rattle.jet.proofs.Prefix.{is, add-upto, sub-upto, mul-upto, div-upto, sqrt-upto, ln-upto}
 use Rattle.jet.proofs.Depends.{sum-first, difference-first, product-first, quotient-first, root-first, logarithm-first}

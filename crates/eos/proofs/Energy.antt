@@ -1,12 +1,12 @@
 -- What the components make together and the residual Helmholtz energy, worked out one operation after the other in the first w coefficients.
 -- Assumes nothing.
-use mathlib.Core.Path.{_≡_, refl, ap, _∙_}
+use mathlib.Core.Path.{_≡_, refl, _∙_}
 use Prim.Native.Nat.{ℕ, zero, suc, _+_, _*_, _≤_, _<_}
 use native.Mathlib.Omega.{arith}
 use mathlib.Core.List.{List}
 use lib.Ieee.{Float}
 use Rattle.float.specs.Ops.{f0}
-use Rattle.jet.specs.Coefficients.{Upto, cut, numberOf, sumOf, productOf, quotientOf}
+use Rattle.jet.specs.Coefficients.{Upto, numberOf, sumOf, productOf, quotientOf}
 use Rattle.jet.specs.Ops.{_⊞_, _⊠_, _⧄_}
 use Rattle.jet.proofs.Prefix.{is, add-upto, mul-upto, div-upto}
 use Rattle.jet.proofs.Depends.{sum-first, product-first, quotient-first}

@@ -1,11 +1,11 @@
 -- What one component and two make with the roots of their ak made apart, worked out one operation after the other in the first w coefficients. Assumes nothing.
-use mathlib.Core.Path.{_≡_, refl, ap, _∙_}
+use mathlib.Core.Path.{_≡_, refl, _∙_}
 use Prim.Native.Nat.{ℕ, zero, suc, _+_, _*_, _<_}
 use native.Mathlib.Omega.{arith}
 use mathlib.Core.List.{List}
 use lib.Ieee.{Float}
 use Rattle.float.specs.Ops.{_⊖_, f0, f1}
-use Rattle.jet.specs.Coefficients.{Upto, cut, numberOf, sumOf, productOf, quotientOf, rootOf}
+use Rattle.jet.specs.Coefficients.{Upto, numberOf, sumOf, productOf, quotientOf, rootOf}
 use Rattle.jet.specs.Ops.{_⊞_, _⊠_, _⧄_}
 use Rattle.jet.proofs.Prefix.{is, add-upto, mul-upto, div-upto, sqrt-upto}
 use Rattle.jet.proofs.Depends.{product-first, root-first}

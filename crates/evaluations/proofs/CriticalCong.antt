@@ -1,6 +1,6 @@
 -- Which mole numbers, volumes and fractions have conditions of criticality and stability alike in the coefficients of first order below w. Assumes nothing.
 use mathlib.Core.Path.{_≡_, refl, _∙_}
-use Prim.Native.Nat.{ℕ, _%_, _≤_, _<_}
+use Prim.Native.Nat.{ℕ, _≤_, _<_}
 use native.Mathlib.Omega.{arith}
 use mathlib.Core.Bool.{Bool, true, false, cond, _||_}
 use mathlib.Core.List.{List}
@@ -8,7 +8,7 @@ use lib.Dec.{eqb}
 use lib.Ieee.{Float, eq}
 use borrow.Author.Tests.{eqb-true}
 use Rattle.float.specs.Ops.{f0, f1}
-use Rattle.jet.specs.Coefficients.{at, Upto, numberOf, markedOf, withMarkOf, rootOf, logarithmOf, derivativeOf}
+use Rattle.jet.specs.Coefficients.{at, Upto, numberOf, markedOf, withMarkOf, rootOf, logarithmOf}
 use Rattle.jet.specs.Ops.{_⊞_, _⊟_, _⊠_, _⧄_}
 use Rattle.jet.proofs.Prefix.{head-same}
 use Rattle.jet.proofs.Depends.{sum-first, difference-first, product-first, quotient-first, root-first, logarithm-first, derivative-first, mark-first}

@@ -1,6 +1,6 @@
 -- The conditions of criticality and of stability, worked out one operation after the other in the coefficients of first order below w. Assumes nothing.
 use mathlib.Core.Path.{_≡_, refl, sym, ap, _∙_}
-use Prim.Native.Nat.{ℕ, _%_, _≤_, _<_}
+use Prim.Native.Nat.{ℕ, _≤_, _<_}
 use native.Mathlib.Omega.{arith}
 use mathlib.Core.Bool.{Bool, true, false, cond, _||_}
 use mathlib.Core.List.{List}
@@ -10,7 +10,7 @@ use borrow.Author.Tests.{eqb-true}
 use Rattle.float.specs.Ops.{f0, f1}
 use Rattle.jet.specs.Positions.{firstOrder}
 use Rattle.jet.specs.Coefficients.{at, Upto, numberOf, markedOf, withMarkOf, sumOf, differenceOf, productOf, quotientOf, recipOf, rootOf, logarithmOf, negationOf, derivativeOf}
-use Rattle.jet.specs.Ops.{_⊞_, _⊠_, _⧄_}
+use Rattle.jet.specs.Ops.{_⊞_, _⊠_}
 use Rattle.jet.proofs.Prefix.{is, add-upto, sub-upto, mul-upto, div-upto, sqrt-upto, ln-upto}
 use Rattle.jet.proofs.Depends.{taken, mark-first, negation-first, derivative-first}
 use Rattle.jet.proofs.WithMark.{marked-number}

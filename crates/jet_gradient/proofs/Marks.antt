@@ -1,17 +1,14 @@
 -- The coefficients beside a mark of a sum, a difference, a product, a quotient, a root and a logarithm: the same four terms for each mark. Assumes nothing.
 use mathlib.Core.Path.{_≡_, refl, sym, ap, _∙_}
-use Prim.Native.Nat.{ℕ, suc, _+_, _≤_, _<_}
+use Prim.Native.Nat.{ℕ, _+_, _<_}
 use native.Mathlib.Omega.{arith}
-use mathlib.Core.Bool.{true}
-use mathlib.Core.List.{List, _∷_}
-use lib.ListN.{replicate}
+use mathlib.Core.List.{List}
 use lib.Ieee.{Float, ofInt, ofBits}
-use Rattle.float.specs.Ops.{_⊕_, _⊖_, _⊗_, _⊘_, f0, f2}
+use Rattle.float.specs.Ops.{_⊕_, _⊖_, _⊗_, _⊘_, f2}
 use Rattle.jet.specs.Positions.{positions, notAbove, firstOrder, among, pairsOf, before, between, weightOf}
 use Rattle.jet.specs.Coefficients.{at, build, cut, upto, Upto, total, less, sumAt, sumOf, differenceAt, differenceOf, productAt, productOf, quotientAt, quotientOf, rootAt, rootOf, logarithmAt, logarithmOf}
 use Rattle.jet.proofs.Build.{Local, length-build, build-at, cut-at}
-use Rattle.jet.proofs.Rules.{quotient-local, root-local, logarithm-local, free-local}
-use Rattle.jet.proofs.Depends.{taken}
+use Rattle.jet.proofs.Rules.{quotient-local, root-local, logarithm-local}
 use Rattle.jet.proofs.Prefix.{is}
 use Rattle.jet_gradient.specs.declared.Four.{Four}
 use Rattle.jet_gradient.specs.Beside.{fourAt, joinedOf, sumBeside, differenceBeside, productBeside, quotientBeside, rootBeside, weightedBeside, logarithmBeside}

@@ -3,19 +3,18 @@ use mathlib.Core.Path.{_≡_, refl, sym, ap, _∙_}
 use Prim.Native.Nat.{ℕ, zero, suc, _+_, _-_, _/_, _%_, _≤_, _<_}
 use native.Mathlib.Omega.{arith}
 use mathlib.Core.Bool.{Bool, true, false, cond, _&&_}
-use mathlib.Core.List.{List, [], _∷_, _++_}
+use mathlib.Core.List.{List}
 use lib.Dec.{leb, eqb}
 use lib.IntN.{pos}
 use lib.ListN.{take}
 use lib.Seq.{getD-take}
 use lib.Ieee.{Float, nan, binary64, ofInt}
 use borrow.Author.Tests.{leb-true, eqb-true, le-leb}
-use Rattle.float.specs.Ops.{_⊕_, _⊗_, _⊘_, f0, f2}
+use Rattle.float.specs.Ops.{_⊗_, f0}
 use Rattle.float.specs.Root.{root}
 use Rattle.float.specs.Ln.{lnOf}
 use Rattle.jet.specs.Positions.{notAbove, among, pairsOf, before, between, weightOf}
-use Rattle.jet.specs.Coefficients.{at, build, total, less, productAt, quotientAt, rootAt, logarithmAt, derivativeAt, factorialOf}
-use Rattle.jet.proofs.Among.{In}
+use Rattle.jet.specs.Coefficients.{at, total, productAt, quotientAt, rootAt, logarithmAt, derivativeAt, factorialOf}
 use Rattle.jet.proofs.Depends.{total-cong}
 use Rattle.jet.proofs.Rules.{less-cong}
 use Rattle.jet_sixteen.specs.Sixteen.{notAbove16, among16, weight16, product16At, quotient16At, root16At, logarithm16At, derivative16At}

@@ -1,13 +1,13 @@
 -- The first sixteen coefficients of every formula are those of jets of 16. Assumes nothing.
 use mathlib.Core.Path.{_≡_, refl, ap, _∙_}
-use Prim.Native.Nat.{ℕ, zero, suc, _≤_, _<_}
+use Prim.Native.Nat.{ℕ, zero, suc, _<_}
 use native.Mathlib.Omega.{arith}
 use mathlib.Core.Bool.{Bool, true, false, cond}
-use mathlib.Core.List.{List, [], _∷_, _++_}
-use lib.ListN.{take, set, replicate}
+use mathlib.Core.List.{List, [], _∷_}
+use lib.ListN.{take, set}
 use lib.Dec.{eqb}
 use lib.Ieee.{Float, neg}
-use Rattle.float.specs.Ops.{_⊕_, _⊖_, f0, f1}
+use Rattle.float.specs.Ops.{f1}
 use Rattle.jet.specs.Positions.{positions}
 use Rattle.jet.specs.Coefficients.{at, build, numberOf, markedOf, withMarkAt, withMarkOf, sumAt, sumOf, differenceAt, differenceOf, negationAt, negationOf, productAt, productOf, quotientAt, quotientOf, rootAt, rootOf, logarithmAt, logarithmOf, derivativeAt, derivativeOf}
 use Rattle.jet.proofs.Build.{take-build}

@@ -1,6 +1,6 @@
 -- The smallest eigenvalue of a 2 by 2 matrix of jets and its vector, worked out one operation after the other in the first w coefficients, and which matrices have
 -- them alike. Assumes nothing.
-use mathlib.Core.Path.{_≡_, refl, ap, _∙_}
+use mathlib.Core.Path.{_≡_, refl, _∙_}
 use Prim.Native.Nat.{ℕ, _≤_}
 use mathlib.Core.Bool.{Bool, true, false, cond}
 use mathlib.Core.List.{List}

@@ -9,7 +9,6 @@ use lib.Dec.{leb, ltb, eqb}
 use borrow.Author.Tests.{le-leb, lt-leb, lt-ltb, le-ltb, ltb-true, eq-eqb, ne-eqb, eqb-true, eqb-false, not-true}
 use Rattle.buf.specs.Bytes.{splice, u64At, putU64}
 use Rattle.buf.proofs.Laws.{numAt-lt, lent-part}
-use Rattle.reader.specs.declared.types.Job.{Job}
 use Rattle.reader.specs.View.{view}
 use Rattle.records.specs.declared.types.Outcome.{Outcome}
 use Rattle.records.specs.Record.{recordBytes}

@@ -1,5 +1,5 @@
 -- `eos::helmholtz_4::b_mix` meets its contract. Assumes nothing.
-use mathlib.Core.Path.{refl, ap}
+use mathlib.Core.Path.{refl}
 use Prim.Native.Nat.{_-_, _≤_}
 use native.Mathlib.Omega.{arith}
 use Rattle.jet.specs.Coefficients.{Upto, numberOf}

@@ -1,5 +1,4 @@
 -- `eos::helmholtz_4::mix` meets its contract. Assumes nothing.
-use mathlib.Core.Path.{ap}
 use native.Mathlib.Omega.{arith}
 use Rattle.jet.specs.Coefficients.{Upto, numberOf}
 use Rattle.eos.specs.Cubic.{nth}

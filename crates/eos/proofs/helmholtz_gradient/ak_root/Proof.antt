@@ -1,6 +1,5 @@
 -- `eos::helmholtz_gradient::ak_root` meets its contract. Assumes nothing.
 use mathlib.Core.Path.{sym, ap, _∙_}
-use native.Mathlib.Omega.{arith}
 use Rattle.float.specs.Root.{root as rootOf}
 use Rattle.jet.proofs.Prefix.{product-head}
 use Rattle.eos.proofs.Pair.{ak-root-law}
