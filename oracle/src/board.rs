@@ -152,7 +152,8 @@ fn quarter_fits(q: &[u8]) -> bool {
         }
     }
     let turns = get(q, TURNS);
-    turns == 0 || (held > 0 && turns < span(first_kind(q)) && load(q).fits())
+    let kind = first_kind(q);
+    turns == 0 || (held > 0 && turns < span(kind) && load(q).fits(kind))
 }
 
 /// The record of a job that its queue's last turn leaves with these numbers.

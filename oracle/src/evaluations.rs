@@ -29,6 +29,7 @@ pub struct Evaluation {
     pub temperature: f64,
     /// of two partial densities the sum
     pub density: f64,
+    pub partial_density: Option<[f64; 2]>,
     pub yields: Vec<f64>,
 }
 
@@ -63,6 +64,7 @@ impl Evaluations {
                 call,
                 temperature,
                 density,
+                partial_density: None,
                 yields: yields.to_vec(),
             });
         }
@@ -70,6 +72,21 @@ impl Evaluations {
             finite(x)?;
         }
         Ok(())
+    }
+
+    /// The same at two partial densities.
+    fn made_partial(
+        &mut self,
+        call: &'static str,
+        temperature: f64,
+        rho: [f64; 2],
+        yields: &[f64],
+    ) -> FeosResult<()> {
+        let made = self.made(call, temperature, rho[0] + rho[1], yields);
+        if let Some(last) = self.trace.as_mut().and_then(|trace| trace.last_mut()) {
+            last.partial_density = Some(rho);
+        }
+        made
     }
 
     /// Pressure and slope.
@@ -133,8 +150,7 @@ impl Evaluations {
         rho: [f64; 2],
     ) -> FeosResult<([f64; 2], [[f64; 2]; 2])> {
         let yields = criticality_t(eos, temperature, rho);
-        let density = rho[0] + rho[1];
-        self.made("criticality_conditions", temperature, density, &yields)?;
+        self.made_partial("criticality_conditions", temperature, rho, &yields)?;
         let [l, c2, l_0, l_1, c2_0, c2_1] = yields;
         Ok(([l, c2], [[l_0, l_1], [c2_0, c2_1]]))
     }
@@ -148,8 +164,7 @@ impl Evaluations {
         rho: [f64; 2],
     ) -> FeosResult<([f64; 3], [[f64; 3]; 3])> {
         let yields = criticality_p(eos, pressure, temperature, rho);
-        let density = rho[0] + rho[1];
-        self.made("criticality_conditions_p", temperature, density, &yields)?;
+        self.made_partial("criticality_conditions_p", temperature, rho, &yields)?;
         let three = |at: usize| [yields[at], yields[at + 1], yields[at + 2]];
         Ok((three(0), [three(3), three(6), three(9)]))
     }

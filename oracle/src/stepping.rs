@@ -7,13 +7,19 @@
 //! | 3, 4 | tag 0 the end, else a round | `rounds` after this one |
 //! | 5, 7 | tag 0 the end, 1 a round from a given temperature, else of the trial `way` | `rounds` after this one |
 //! | 6 | stage 0 the end, 1 the critical point, whose tag 0 is a trial's, 2 the vapour's spinodal, else the liquid's | as in kind 5 |
+//! | 8, 9 | tag 0 the end, else a round | `rounds` after this one; the floats are the unknowns: both partial densities, in kind 9 the temperature before them |
 
 use crate::block::Job;
 use crate::evaluations::{finite, Evaluations, FeosError, FeosResult};
 use crate::float;
 
-/// The kinds whose places are laid out here are 1 to 7.
-pub const STEPPED: u64 = 7;
+/// The stored rounds of a kind's search are fewer than this.
+pub fn rounds_below(kind: u64) -> u64 {
+    match kind {
+        8 | 9 => 200,
+        _ => 50,
+    }
+}
 
 /// What a quarter stores of its running search.
 #[derive(Clone, Copy, Debug, PartialEq)]
@@ -26,7 +32,7 @@ pub struct Stored {
     pub rounds: u64,
     pub floats: [f64; 3],
     pub evaluations: u64,
-    /// density of the latest evaluation
+    /// density of the latest evaluation, of two partial densities the sum
     pub latest: f64,
 }
 
@@ -43,14 +49,14 @@ const NOTHING: Stored = Stored {
 };
 
 impl Stored {
-    /// The range of each counter: those of a search, or the end of a job that its data refuse.
-    pub fn fits(&self) -> bool {
+    /// The range of each counter: those of the kind's search, or the end of a job that its data refuse.
+    pub fn fits(&self, kind: u64) -> bool {
         let of_search = self.stage <= 4
             && self.tag <= 6
             && (self.status == 0 || (21..=27).contains(&self.status))
             && self.left <= 49
             && self.way <= 3
-            && self.rounds <= 49;
+            && self.rounds < rounds_below(kind);
         let zeros = [self.stage, self.tag, self.left, self.way, self.rounds];
         of_search || (zeros == [0; 5] && (11..=17).contains(&self.status))
     }
@@ -399,6 +405,55 @@ impl Both {
             } => at(2, rounds, rho, critical),
             Both::Liquid { vapor, rounds, rho } => at(3, rounds, rho, vapor),
         }
+    }
+}
+
+/// A critical point at a set temperature or pressure, of two or three unknowns: its end, or a round.
+enum Binary<const U: usize> {
+    Ended(FeosResult<[f64; U]>),
+    At { rounds: u64, at: [f64; U] },
+}
+
+impl<const U: usize> Binary<U> {
+    /// A step's end, or the next round if one is left.
+    fn after(rounds: u64, stepped: FeosResult<(bool, [f64; U])>) -> Self {
+        match stepped {
+            Err(error) => Binary::Ended(Err(error)),
+            Ok((true, at)) => Binary::Ended(Ok(at)),
+            Ok((false, at)) => match rounds.checked_sub(1) {
+                Some(rounds) => Binary::At { rounds, at },
+                None => Binary::Ended(Err(FeosError::NotConverged)),
+            },
+        }
+    }
+
+    fn written(self) -> Stored {
+        let floats = |at: [f64; U]| std::array::from_fn(|i| at.get(i).copied().unwrap_or(0.0));
+        match self {
+            Binary::Ended(end) => ended(end.map(floats)),
+            Binary::At { rounds, at } => Stored {
+                tag: 1,
+                rounds,
+                floats: floats(at),
+                ..NOTHING
+            },
+        }
+    }
+}
+
+/// The rounds after the first of `critical_point_binary_t` and `critical_point_binary_p`.
+const AFTER_FIRST_BINARY: u64 = 199;
+/// Kind 9's starting temperature where none is given.
+const BINARY_START: f64 = 300.0;
+
+/// The whole step made shorter where this part of it is longer than `most`.
+fn shortened<const U: usize>(delta: [f64; U], part: usize, most: f64) -> [f64; U] {
+    let size = delta[part].abs();
+    if size > most {
+        let factor = most / size;
+        delta.map(|d| d * factor)
+    } else {
+        delta
     }
 }
 
@@ -858,7 +913,7 @@ impl<'a> Step<'a> {
         0.3 * self.max_density
     }
 
-    /// The starting density of kinds 5 and 7.
+    /// The starting density of kinds 5 and 7 to 9.
     fn given_start(&self) -> f64 {
         if self.job.start.to_bits() == 0 {
             self.usual_start()
@@ -935,6 +990,65 @@ impl<'a> Step<'a> {
             },
         }
     }
+
+    // ---- kinds 8 and 9
+
+    /// The starting density shared out by the fractions.
+    fn partial_start(&self) -> [f64; 2] {
+        let (x, rho) = (&self.job.molefracs, self.given_start());
+        [x[0] * rho, x[1] * rho]
+    }
+
+    fn binary_t_begins(&self) -> Binary<2> {
+        Binary::At {
+            rounds: AFTER_FIRST_BINARY,
+            at: self.partial_start(),
+        }
+    }
+
+    fn binary_p_begins(&self) -> Binary<3> {
+        let [rho0, rho1] = self.partial_start();
+        let t = match self.job.temperature {
+            t if t.to_bits() == 0 => BINARY_START,
+            t => t,
+        };
+        Binary::At {
+            rounds: AFTER_FIRST_BINARY,
+            at: [t, rho0, rho1],
+        }
+    }
+
+    /// A partial density after its step and its floor.
+    fn stepped_density(&self, rho: f64, delta: f64) -> FeosResult<f64> {
+        finite(float::max(rho - delta, 1e-4 * self.max_density))
+    }
+
+    fn binary_t_at(&mut self, rho: [f64; 2]) -> FeosResult<(bool, [f64; 2])> {
+        let (eos, t) = (&self.job.eos, self.job.temperature);
+        let (res, jac) = self.at(rho[0] + rho[1]).criticality_t(eos, t, rho)?;
+        let mut delta = float::solve(jac, res).ok_or(FeosError::IterationFailed)?;
+        for part in 0..2 {
+            delta = shortened(delta, part, 0.03 * self.max_density);
+        }
+        let rho0 = self.stepped_density(rho[0], delta[0])?;
+        let rho1 = self.stepped_density(rho[1], delta[1])?;
+        Ok((float::norm(res) < TOLERANCE, [rho0, rho1]))
+    }
+
+    fn binary_p_at(&mut self, [t, rho0, rho1]: [f64; 3]) -> FeosResult<(bool, [f64; 3])> {
+        let (eos, p) = (&self.job.eos, self.job.pressure);
+        let made = self.at(rho0 + rho1).criticality_p(eos, p, t, [rho0, rho1]);
+        let (res, jac) = made?;
+        let mut delta = float::solve_three(jac, res).ok_or(FeosError::IterationFailed)?;
+        delta = shortened(delta, 0, 0.25 * t);
+        for part in 1..3 {
+            delta = shortened(delta, part, 0.03 * self.max_density);
+        }
+        let t = finite(t - delta[0])?;
+        let rho0 = self.stepped_density(rho0, delta[1])?;
+        let rho1 = self.stepped_density(rho1, delta[2])?;
+        Ok((float::norm(res) < TOLERANCE, [t, rho0, rho1]))
+    }
 }
 
 fn spinodal_written(place: Spinodal) -> Stored {
@@ -991,7 +1105,8 @@ pub fn start(job: &Result<Job, u64>) -> Stored {
         6 => step
             .after_critical(trial_begins(0, step.usual_start()))
             .written(),
-        kind => unimplemented!("stored places of kind {kind}"),
+        8 => step.binary_t_begins().written(),
+        _ => step.binary_p_begins().written(),
     }
 }
 
@@ -1023,7 +1138,11 @@ pub fn step(job: &Result<Job, u64>, stored: &Stored) -> Stored {
             step.critical_steps(start, Critical::read(stored)).written()
         }
         6 => step.both_steps(Both::read(stored)).written(),
-        kind => unimplemented!("stored places of kind {kind}"),
+        8 => {
+            let [rho0, rho1, _] = stored.floats;
+            Binary::after(rounds, step.binary_t_at([rho0, rho1])).written()
+        }
+        _ => Binary::after(rounds, step.binary_p_at(stored.floats)).written(),
     };
     Stored {
         evaluations: stored.evaluations.wrapping_add(1),
