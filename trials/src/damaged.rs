@@ -4,26 +4,29 @@
 use crate::blocks::{damage_float, odd_float, Blocks};
 use crate::proved;
 use crate::report::{same, same_bytes, Difference, Options, Outcome, Progress, Tally};
-use oracle::block::{check, count_fits};
+use oracle::block::{check, count_fits, KINDS};
 use oracle::board::{
     self, block_at, count_at, fits, get, kind_at, put, span, Answer, ACCEPTED, BOARD, COUNTERS,
     EVALUATIONS, FLOATS, HELD, LATEST, QUARTER, RECORD, TURN, TURNS,
 };
-use oracle::critical_point::{critical_point, spinodal};
+use oracle::critical_point::{
+    critical_point, critical_point_binary_p, critical_point_binary_t, spinodal,
+};
 use oracle::density_iteration::{_pressure_spinodal, _pressure_spinodal_branch};
 use oracle::evaluations::Evaluations;
 use oracle::random::Rng;
 use oracle::state::DensityInitialization::{Liquid, Vapor};
+use oracle::stepping::rounds_below;
 use oracle::BLOCK;
 
 // ---- boards from runs
 
-/// An N, in kind 7 mostly the one that fits.
+/// An N, in kinds 7 to 9 mostly the one that fits.
 fn count(rng: &mut Rng, kind: u64) -> u64 {
     match rng.below(6) {
         0 => 1 + rng.below(8) as u64,
         1 => 2,
-        _ if kind == 7 => 2,
+        _ if (7..=9).contains(&kind) => 2,
         _ => 1,
     }
 }
@@ -70,9 +73,10 @@ fn fresh(rng: &mut Rng, blocks: &Blocks) -> Run {
         kinds: rng.pick(&[
             &[1, 2][..],
             &[3, 4],
-            &[3, 4, 5, 6, 7],
+            &[3, 4, 5, 6, 7, 8, 9],
             &[5, 7],
-            &[1, 2, 3, 4, 5, 6, 7],
+            &[8, 9],
+            &[1, 2, 3, 4, 5, 6, 7, 8, 9],
         ]),
     };
     for queue in 0..4 {
@@ -104,6 +108,7 @@ fn edge(rng: &mut Rng) -> u64 {
         30,
         50,
         150,
+        200,
         250,
         3101,
         6204,
@@ -124,18 +129,30 @@ fn first_kind(q: &[u8]) -> u64 {
     get(q, kind_at(first_slot(q)))
 }
 
-/// A counter's value in its range.
-fn counter(rng: &mut Rng, i: usize) -> u64 {
-    let below = |rng: &mut Rng, n: usize| rng.below(n) as u64;
+/// A counter's value in the kind's range.
+fn counter(rng: &mut Rng, kind: u64, i: usize) -> u64 {
+    let most = if i == 5 { rounds_below(kind) } else { 50 };
+    let below = |rng: &mut Rng, n: u64| rng.bits() % n;
     match i {
         0 => below(rng, 5),
         1 => below(rng, 7),
         2 => rng.pick(&[0, 0, 0, 21, 22, 23, 24, 25, 26, 27]),
         4 => below(rng, 4),
         _ if rng.once_in(3) => 0,
-        _ if rng.once_in(4) => 49,
-        _ => below(rng, 50),
+        _ if rng.once_in(4) => most - 1,
+        _ => below(rng, most),
     }
+}
+
+/// At and around the ends of both ranges of rounds, whichever is the kind's.
+fn rounds_edge(rng: &mut Rng) -> u64 {
+    rng.pick(&[48, 49, 50, 51, 198, 199, 200, 201])
+}
+
+/// The numbers themselves, or each moved a little.
+fn near<const U: usize>(rng: &mut Rng, found: [f64; U]) -> [f64; U] {
+    let most = rng.pick(&[0.0, 1e-9, 1e-4, 0.05]);
+    found.map(|x| x * (1.0 + most * rng.between(-1.0, 1.0)))
 }
 
 /// Densities, temperatures, pressures and odd ones.
@@ -148,8 +165,8 @@ fn plausible(rng: &mut Rng) -> u64 {
     }
 }
 
-/// Densities, or a temperature and a density, at which a search of the first job converges or turns.
-fn telling(rng: &mut Rng, q: &[u8]) -> Option<[f64; 2]> {
+/// Densities, or a temperature and densities, at which a search of the first job converges or turns.
+fn telling(rng: &mut Rng, q: &[u8]) -> Option<Vec<f64>> {
     let slot = first_slot(q);
     let (kind, n) = (get(q, kind_at(slot)) as u8, get(q, count_at(slot)) as usize);
     if !count_fits(kind.into(), n as u64) {
@@ -160,11 +177,20 @@ fn telling(rng: &mut Rng, q: &[u8]) -> Option<[f64; 2]> {
     let (eos, x, t) = (&job.eos, &job.molefracs[..], job.temperature);
     let evals = &mut Evaluations::default();
     if kind == 5 || kind == 7 || (kind == 6 && rng.once_in(2)) {
-        return critical_point(eos, x, None, None, evals).ok();
+        let found = critical_point(eos, x, None, None, evals).ok()?;
+        return Some(found.into());
     }
     if kind == 6 {
         let [vapor, liquid] = spinodal(eos, t, x, evals).ok()?;
-        return Some(rng.pick(&[[vapor, liquid], [liquid, vapor]]));
+        return Some(rng.pick(&[[vapor, liquid], [liquid, vapor]]).into());
+    }
+    if kind == 8 {
+        let found = critical_point_binary_t(eos, t, x, None, evals).ok()?;
+        return Some(near(rng, found).into());
+    }
+    if kind == 9 {
+        let found = critical_point_binary_p(eos, job.pressure, None, x, None, evals).ok()?;
+        return Some(near(rng, found).into());
     }
     let max_density = eos.compute_max_density(x);
     let other = max_density * rng.unit();
@@ -174,7 +200,7 @@ fn telling(rng: &mut Rng, q: &[u8]) -> Option<[f64; 2]> {
         2 => _pressure_spinodal(eos, t, other, x, evals).ok()?.1,
         _ => max_density * rng.pick(&[0.001, 0.1, 0.3, 0.6, 0.8, 0.86, 0.95, 1.0]),
     };
-    Some([rho, other])
+    Some(vec![rho, other])
 }
 
 /// A running search with any numbers in their ranges, and the turn at its queue.
@@ -191,16 +217,19 @@ fn any_place(rng: &mut Rng, board: &mut [u8], queue: usize) {
     };
     put(q, TURNS, turns);
     for i in 0..6 {
-        let value = counter(rng, i);
+        let value = counter(rng, first_kind(q), i);
         put(q, COUNTERS + 8 * i, value);
+    }
+    if rng.once_in(8) {
+        put(q, COUNTERS + 40, rounds_edge(rng));
     }
     for i in 0..3 {
         put(q, FLOATS + 8 * i, plausible(rng));
     }
     if rng.once_in(2) {
-        if let Some([x, y]) = telling(rng, q) {
-            put(q, FLOATS, x.to_bits());
-            put(q, FLOATS + 8, y.to_bits());
+        let found = telling(rng, q).unwrap_or_default();
+        for (i, x) in found.into_iter().enumerate() {
+            put(q, FLOATS + 8 * i, x.to_bits());
         }
     }
     if rng.once_in(4) {
@@ -214,7 +243,7 @@ fn damage_quarter(rng: &mut Rng, blocks: &Blocks, q: &mut [u8]) {
         0 => rng.below(8),
         _ => first_slot(q),
     };
-    match rng.below(16) {
+    match rng.below(17) {
         0 => q[rng.below(QUARTER)] = rng.bits() as u8,
         1 => q[rng.below(256)] ^= 1 << rng.below(8),
         2 => put(q, 8 * rng.below(32), edge(rng)),
@@ -224,7 +253,7 @@ fn damage_quarter(rng: &mut Rng, blocks: &Blocks, q: &mut [u8]) {
         }
         4 | 5 => {
             let i = rng.below(6);
-            put(q, COUNTERS + 8 * i, counter(rng, i));
+            put(q, COUNTERS + 8 * i, counter(rng, first_kind(q), i));
         }
         6 | 7 => {
             let at = rng.pick(&[FLOATS, FLOATS + 8, FLOATS + 16, LATEST]);
@@ -235,7 +264,7 @@ fn damage_quarter(rng: &mut Rng, blocks: &Blocks, q: &mut [u8]) {
             put(q, TURNS, rng.pick(&[0, 1, end - 2, end - 1, end, end + 1]));
         }
         9 => {
-            let kind = rng.below(9) as u64;
+            let kind = rng.bits() % (KINDS + 2);
             put(q, kind_at(slot), kind);
         }
         10 => {
@@ -259,6 +288,7 @@ fn damage_quarter(rng: &mut Rng, blocks: &Blocks, q: &mut [u8]) {
             }
         }
         14 => damage_float(rng, &mut q[block_at(slot)..block_at(slot) + BLOCK]),
+        15 => put(q, COUNTERS + 40, rounds_edge(rng)),
         _ => {
             let (kind, n) = (get(q, kind_at(slot)), get(q, count_at(slot)));
             let block = blocks.any(rng, kind, n);
@@ -416,7 +446,7 @@ fn try_calls(rng: &mut Rng, blocks: &Blocks, boards: &mut Boards, tally: &mut Ta
     let said = boards.look(queue)?;
     tally.add(answered("look", said));
 
-    let kind = 1 + rng.below(7) as u64;
+    let kind = 1 + rng.bits() % KINDS;
     let n = count(rng, kind);
     let block = blocks.any(rng, kind, n);
     let length = if rng.once_in(16) { BLOCK - 1 } else { BLOCK };

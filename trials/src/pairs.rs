@@ -59,7 +59,7 @@ struct Theme {
 fn theme(rng: &mut Rng) -> Theme {
     let short = Theme {
         calls: 80 + rng.below(280),
-        kinds: &[3, 3, 3, 4, 4, 4, 5, 7],
+        kinds: &[3, 3, 3, 4, 4, 4, 5, 7, 8, 9],
         submits: 8,
         looks: 10,
         burst: rng.below(6),
@@ -77,16 +77,16 @@ fn theme(rng: &mut Rng) -> Theme {
         },
         1 | 2 => Theme {
             calls: 13_800,
-            kinds: &[1, 1, 3, 4, 5, 6, 7],
+            kinds: &[1, 1, 3, 4, 5, 6, 7, 8, 9],
             submits: 1000,
             looks: 50,
             burst: 8,
             ..short
         },
-        // for kinds 5 to 7
+        // for kinds 5 to 9
         3..=22 => Theme {
             calls: 800 + rng.below(800),
-            kinds: &[3, 4, 5, 6, 6, 7, 7],
+            kinds: &[3, 4, 5, 6, 6, 7, 8, 8, 9, 9],
             submits: 80,
             burst: 4 + rng.below(8),
             ..short
@@ -101,9 +101,9 @@ fn theme(rng: &mut Rng) -> Theme {
     }
 }
 
-/// A number near the range 0 to 9, or one that a narrower type would take for one of it.
+/// A number from 0 to 10, or one that a narrower type would take for one of them.
 fn wrong_number(rng: &mut Rng) -> u64 {
-    let small = rng.below(10) as u64;
+    let small = rng.below(11) as u64;
     match rng.below(4) {
         0 => small,
         1 => small + rng.pick(&[1 << 8, 1 << 16, 1 << 32, 1 << 63]),
@@ -112,12 +112,12 @@ fn wrong_number(rng: &mut Rng) -> u64 {
     }
 }
 
-/// An N, in kind 7 mostly the one that fits.
+/// An N, in kinds 7 to 9 mostly the one that fits.
 fn count(rng: &mut Rng, kind: u64) -> u64 {
     match rng.below(8) {
         0 => 1 + rng.below(8) as u64,
         1 | 2 => 2,
-        _ if kind == 7 => 2,
+        _ if (7..=9).contains(&kind) => 2,
         _ => 1,
     }
 }

@@ -23,7 +23,7 @@ pub struct Schedule<T> {
 }
 
 fn span(kind: u64) -> u64 {
-    [3101, 6204, 30, 30, 150, 250, 150][kind as usize - 1]
+    [3101, 6204, 30, 30, 150, 250, 150, 200, 200][kind as usize - 1]
 }
 
 impl<T> Schedule<T> {
@@ -54,10 +54,10 @@ impl<T> Schedule<T> {
         if queue > 3 {
             return Err(1);
         }
-        if kind < 1 || kind > 7 {
+        if kind < 1 || kind > 9 {
             return Err(2);
         }
-        if n < 1 || n > 8 || (kind == 7 && n != 2) {
+        if n < 1 || n > 8 || (kind >= 7 && n != 2) {
             return Err(3);
         }
         if size != 640 {
