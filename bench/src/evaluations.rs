@@ -1,7 +1,7 @@
 //! The crate `eos`: each evaluation against the oracle's. The proved code works out positions 0 to 3 in the evaluations
 //! along the density, where only e0 is marked; the oracle works out all sixteen. So these three are also held to the same
 //! rules in Rust on four coefficients, `four` below.
-use crate::blends::{six, Blend, Evaluate, Rows, ALONG, EVALUATIONS};
+use crate::blends::{put, yielded, Blend, Evaluate, Reads, Rows, State, ALONG, EVALUATIONS};
 use crate::floats::Random;
 use crate::timing::{compare, Row};
 use oracle::{PengRobinson, PengRobinsonRecord};
@@ -124,29 +124,37 @@ mod four {
 
 /// The evaluations along the density by the same rules on four coefficients.
 const ON_FOUR: [Evaluate; ALONG] = [
-    |blend, t, rho| six(four::p_dpdrho(blend, t, rho)),
-    |blend, t, rho| six(four::p_dpdrho_d2pdrho2(blend, t, rho)),
-    |blend, t, rho| six([four::chemical_potential(blend, t, rho)]),
+    |blend, s, r| put(r, four::p_dpdrho(blend, s.temperature, s.density[0])),
+    |blend, s, r| put(r, four::p_dpdrho_d2pdrho2(blend, s.temperature, s.density[0])),
+    |blend, s, r| put(r, [four::chemical_potential(blend, s.temperature, s.density[0])]),
 ];
 
-fn states(blend: &Blend) -> Vec<(f64, f64)> {
+/// Partial densities are in the ratio of the fractions.
+fn states(blend: &Blend, reads: Reads) -> Vec<State> {
     let mut random = Random(0x9e3779b97f4a7c15);
     let mut unit = || (random.next() >> 11) as f64 / (1u64 << 53) as f64;
     let max_density = blend.eos.compute_max_density(blend.fractions());
     let count = if blend.rows.n == 8 { 8 } else { 64 };
-    (0..count).map(|_| (200.0 + 400.0 * unit(), max_density * (0.01 + 0.9 * unit()))).collect()
+    let mut state = || State::of(200.0 + 400.0 * unit(), max_density * (0.01 + 0.9 * unit()));
+    let partial = |state: State| {
+        let (rho, x) = (state.density[0], &blend.rows.x);
+        State { density: [x[0] * rho, x[1] * rho], pressure: 0.3, ..state }
+    };
+    (0..count).map(|_| state()).map(|state| if reads == Reads::Density { state } else { partial(state) }).collect()
 }
 
-fn row(name: &str, against: &'static str, blend: &Blend, ours: Evaluate, theirs: Evaluate) -> Row {
+fn row(name: &str, against: &'static str, blend: &Blend, reads: Reads, ours: Evaluate, theirs: Evaluate) -> Row {
     let what = format!("{name}, N = {}", blend.rows.n);
-    let states = states(blend);
-    for &(t, rho) in &states {
-        let (x, y) = (ours(blend, t, rho), theirs(blend, t, rho));
+    let states = states(blend, reads);
+    for state in &states {
+        let [x, y] = [ours, theirs].map(|evaluate| yielded(evaluate, blend, state));
         assert!(x.map(f64::to_bits) == y.map(f64::to_bits), "{what}: the two sides differ");
     }
     let run = |f: Evaluate| {
-        for &(t, rho) in black_box(&states) {
-            black_box(f(black_box(blend), t, rho));
+        let mut r = [0.0; 12];
+        for state in black_box(&states) {
+            f(black_box(blend), state, &mut r);
+            black_box(&r);
         }
     };
     compare(Box::leak(what.into_boxed_str()), against, states.len(), &mut || run(ours), &mut || run(theirs))
@@ -157,14 +165,14 @@ pub fn rows() -> Vec<Row> {
     for (evaluation, on_four) in EVALUATIONS.iter().zip(ON_FOUR) {
         for n in [1, 2, 8] {
             let blend = blend(n);
-            rows.push(row(evaluation.name, "the oracle's", &blend, evaluation.ours, evaluation.theirs));
-            rows.push(row(evaluation.name, "four coefficients", &blend, evaluation.ours, on_four));
+            rows.push(row(evaluation.name, "the oracle's", &blend, evaluation.reads, evaluation.ours, evaluation.theirs));
+            rows.push(row(evaluation.name, "four coefficients", &blend, evaluation.reads, evaluation.ours, on_four));
         }
     }
-    // of one component, and criticality of two
+    // of one component, and criticality of two, also at partial densities
     for evaluation in &EVALUATIONS[ALONG..] {
         for n in [1, 2].into_iter().filter(|&n| (evaluation.of)(n) == n) {
-            rows.push(row(evaluation.name, "the oracle's", &blend(n), evaluation.ours, evaluation.theirs));
+            rows.push(row(evaluation.name, "the oracle's", &blend(n), evaluation.reads, evaluation.ours, evaluation.theirs));
         }
     }
     rows

@@ -1,4 +1,4 @@
-//! The requests that writes, jobs and turns are measured on: eight of each kind for N = 1, 2, 8 (kind 7: 2), on one bottle.
+//! The requests that writes, jobs and turns are measured on: eight of each kind for N = 1, 2, 8 (kinds 7 to 9: 2), on one bottle.
 use crate::proved;
 use oracle::random::FLUIDS;
 use oracle::writer::Filing;
@@ -44,6 +44,12 @@ impl Bottle {
         Bottle { records, interactions, fractions, tc, max_density }
     }
 
+    /// From the first component towards the second, by ninths.
+    fn along(&self, i: usize, number: fn(&PengRobinsonRecord) -> f64) -> f64 {
+        let [first, second] = [0, 1].map(|component| number(&self.records[component]));
+        first + (second - first) * (i + 1) as f64 / 9.0
+    }
+
     fn filing(&self, kind: u8, choice: u64, [temperature, pressure, start]: [f64; 3]) -> Filing {
         Filing {
             kind: kind.into(),
@@ -85,7 +91,11 @@ pub fn filings(kind: u8, n: usize) -> Vec<Filing> {
             5 => (component, [[0.0, 1.05 * bottle.records[component].tc][i % 2], 0.0, 0.0]),
             6 => (component, [bottle.records[component].tc * warmth, 0.0, 0.0]),
             // from none and from one near the answer, of the temperature and of the density
-            _ => (0, [[0.0, (1.0 + 0.01 * i as f64) * bottle.tc][i % 2], 0.0, [0.0, near][i / 4]]),
+            7 => (0, [[0.0, (1.0 + 0.01 * i as f64) * bottle.tc][i % 2], 0.0, [0.0, near][i / 4]]),
+            // along the critical line from no density and from one near the answer; kind 9 from a temperature near it, since
+            // from none some searches do not converge
+            8 => (0, [bottle.along(i, |record| record.tc), 0.0, [0.0, near][i % 2]]),
+            _ => (0, [bottle.along(i, |record| record.tc), 1e-5 * BAR * bottle.along(i, |record| record.pc), [0.0, near][i % 2]]),
         };
         bottle.filing(kind, choice as u64, conditions)
     };
@@ -104,5 +114,5 @@ pub fn jobs(kind: u8, n: usize) -> Vec<Job> {
 
 /// Kind and N of each row.
 pub fn rows() -> impl Iterator<Item = (u8, usize)> {
-    (1..=6).flat_map(|kind| [1, 2, 8].map(|n| (kind, n))).chain([(7, 2)])
+    (1..=6).flat_map(|kind| [1, 2, 8].map(|n| (kind, n))).chain([7, 8, 9].map(|kind| (kind, 2)))
 }

@@ -3,7 +3,7 @@
 //!
 //! Each call is timed alone by `Clock`, on a board whose four queues are running and full but for what the call needs, turns
 //! also on a board that holds one job. The words that a call changes are put back, so that it is made again, the two sides in turn.
-use crate::blends::{Blend, Evaluation, Rows, EVALUATIONS};
+use crate::blends::{yielded, Blend, Evaluation, Rows, State, EVALUATIONS};
 use crate::proved;
 use crate::requests::{self, jobs, Job};
 use crate::timing::{deeper, median, Clock};
@@ -121,28 +121,36 @@ impl Repeated for Case<'_> {
 struct Point {
     blend: Rc<Blend>,
     evaluation: &'static Evaluation,
-    temperature: f64,
+    state: State,
+    /// what a look shows of it
     density: f64,
 }
 
 impl Point {
-    /// Sees that the evaluation on this blend yields what it did in the job.
-    fn new(blend: &Rc<Blend>, made: &evaluations::Evaluation) -> Self {
-        let evaluation = EVALUATIONS.iter().find(|evaluation| evaluation.name == made.call).expect("an evaluation of the oracle's");
+    /// Sees that the evaluation on this blend yields what it did in the job of this pressure.
+    fn new(blend: &Rc<Blend>, pressure: f64, made: &evaluations::Evaluation) -> Self {
+        let name = match made.partial_density {
+            Some(_) if made.call == "criticality_conditions" => "criticality_conditions_t",
+            _ => made.call,
+        };
+        let evaluation = EVALUATIONS.iter().find(|evaluation| evaluation.name == name).expect("an evaluation of the oracle's");
+        let density = made.partial_density.unwrap_or([made.density, 0.0]);
+        let state = State { temperature: made.temperature, density, pressure };
         assert!(!made.yields.is_empty(), "an evaluation that yields nothing");
         for evaluate in [evaluation.ours, evaluation.theirs] {
-            let yielded = evaluate(blend, made.temperature, made.density);
+            let yielded = yielded(evaluate, blend, &state);
             let same = made.yields.iter().zip(yielded).all(|(&x, y)| float::bits(x) == float::bits(y));
-            assert!(same, "{}: another evaluation than the job's", made.call);
+            assert!(same, "{name}: another evaluation than the job's");
         }
-        Point { blend: blend.clone(), evaluation, temperature: made.temperature, density: made.density }
+        Point { blend: blend.clone(), evaluation, state, density: made.density }
     }
 }
 
 impl Repeated for Point {
     fn make(&mut self, clock: &Clock, side: usize) -> f64 {
         let evaluate = [self.evaluation.ours, self.evaluation.theirs][side];
-        let (yielded, ns) = clock.time(|| evaluate(&self.blend, self.temperature, self.density));
+        let mut yielded = [0.0; 12];
+        let ((), ns) = clock.time(|| evaluate(&self.blend, &self.state, &mut yielded));
         black_box(yielded);
         ns
     }
@@ -181,7 +189,7 @@ fn round(board: &mut [u8], written: bool) {
 fn evaluations_of(job: &Job) -> Vec<Point> {
     let Ok(run) = check(job.kind, job.n.into(), &job.block) else { panic!("a job without fault") };
     let blend = Rc::new(Blend::new(Rows::of(&run.eos, &run.molefracs)));
-    trace_request(job.kind, job.n, &job.block).1.iter().map(|made| Point::new(&blend, made)).collect()
+    trace_request(job.kind, job.n, &job.block).1.iter().map(|made| Point::new(&blend, run.pressure, made)).collect()
 }
 
 /// The calls of a kind and N, by what they find.
