@@ -1,7 +1,8 @@
 /*
  * Peng-Robinson board: densities and spinodals of blends of 1 to 8 components, critical points of
- * components and of blends of two, by the Peng-Robinson equation of state, as jobs in four queues.
- * The functions are written in Rattle and proved; this header declares them for C and C++.
+ * components and of blends of two, critical lines of two components, by the Peng-Robinson equation
+ * of state, as jobs in four queues. The functions are written in Rattle and proved; this header
+ * declares them for C and C++.
  *
  * Build. `rt staticlib gateway` at the project's root writes target/staticlib/libgateway.a. Then
  *
@@ -59,7 +60,7 @@ extern "C" {
 #define PR_REQUEST_BYTES 642  /* a request in a file: kind byte, N byte, block */
 #define PR_QUEUES 4           /* queues 0 to 3 */
 #define PR_QUEUE_JOBS 8       /* jobs that a queue holds, the running one included */
-#define PR_COMPONENTS_MAX 8   /* components of a blend, N: 1 to 8; in kind 7 N is 2 */
+#define PR_COMPONENTS_MAX 8   /* components of a blend, N: 1 to 8; in kinds 7 to 9 N is 2 */
 
 /*
  * Kinds of jobs: what is read of the request, and the values handed out, in the record's order.
@@ -101,6 +102,23 @@ extern "C" {
    with PR_REFUSED_NOT_FINITE; kind 5 has the component alone. */
 #define PR_KIND_BLEND_CRITICAL_POINT 7
 
+/* Critical points at a set temperature or pressure: points of the critical line of two components;
+   N is 2. The composition is searched too. The search begins at the fractions, which are read, and
+   at start, where +0 means none given and 0.3 of the maximum density is taken. Hands out the
+   partial densities of the first and the second component: the density is their sum, and each over
+   the sum is a fraction. As in kind 7 there may be several such points or none, not every one is
+   stable, and both fractions have to be above 0: with one of 0 the search ends with
+   PR_REFUSED_NOT_FINITE. */
+
+/* At a set temperature. Reads fractions, temperature and start. Hands out the first and the second
+   partial density. */
+#define PR_KIND_CRITICAL_POINT_AT_TEMPERATURE 8
+
+/* At a set pressure. Reads fractions, pressure, start, and the temperature that the search begins
+   at; +0 means none given, and 300 K is taken. Hands out temperature, the first and the second
+   partial density. */
+#define PR_KIND_CRITICAL_POINT_AT_PRESSURE 9
+
 /*
  * Spans: the turns of its own queue that a job of a kind takes, the one that takes it in included,
  * whatever its data. No job makes more evaluations than its span. A job alone on a fresh board, in
@@ -113,6 +131,8 @@ extern "C" {
 #define PR_SPAN_CRITICAL_POINT 150
 #define PR_SPAN_STABILITY_SPINODALS 250
 #define PR_SPAN_BLEND_CRITICAL_POINT 150
+#define PR_SPAN_CRITICAL_POINT_AT_TEMPERATURE 200
+#define PR_SPAN_CRITICAL_POINT_AT_PRESSURE 200
 
 /* Choices of PR_KIND_DENSITY, and the first two of PR_KIND_SPINODAL_BRANCH. */
 #define PR_CHOICE_VAPOR 0
@@ -125,8 +145,8 @@ extern "C" {
  * The caller's: returned by the functions; nothing changes.
  */
 #define PR_REFUSED_QUEUE 1           /* queue above 3 */
-#define PR_REFUSED_KIND 2            /* kind not 1 to 7 */
-#define PR_REFUSED_COMPONENTS 3      /* N not 1 to 8; kind 7: N not 2 */
+#define PR_REFUSED_KIND 2            /* kind not 1 to 9 */
+#define PR_REFUSED_COMPONENTS 3      /* N not 1 to 8; kinds 7 to 9: N not 2 */
 #define PR_REFUSED_QUEUE_FULL 4      /* the queue holds eight jobs */
 #define PR_REFUSED_RECORD_LENGTH 5   /* record buffer under 64 bytes */
 #define PR_REFUSED_BOARD 6           /* board not 24,584 bytes, or a number stored in it is out of
@@ -143,15 +163,16 @@ extern "C" {
                                            positive, acentric factor or kappa not finite, a or b
                                            not finite and positive */
 #define PR_REFUSED_INTERACTIONS 13      /* an interaction not finite */
-#define PR_REFUSED_FRACTIONS 14         /* kinds 1 to 4 and 7: a fraction not finite or with a
-                                           minus sign, -0 included */
+#define PR_REFUSED_FRACTIONS 14         /* all kinds but 5 and 6: a fraction not finite or with
+                                           a minus sign, -0 included */
 #define PR_REFUSED_CONDITIONS 15        /* a temperature that is read not finite and positive
-                                           (kinds 5 and 7: nor +0), or a pressure or start that
-                                           is read not finite */
+                                           (kinds 5, 7 and 9: nor +0), or a pressure or start
+                                           that is read not finite */
 #define PR_REFUSED_CHOICE 16            /* choice that is read out of the kind's range, or maximum
                                            density not finite and positive */
-#define PR_REFUSED_SUM_OF_FRACTIONS 17  /* kinds 1 to 4 and 7: the fractions' sum, in floats from
-                                           the first on, differs from 1 by more than 1e-9 */
+#define PR_REFUSED_SUM_OF_FRACTIONS 17  /* all kinds but 5 and 6: the fractions' sum, in floats
+                                           from the first on, differs from 1 by more than
+                                           1e-9 */
 
 /* The equation's: in a record's status. */
 #define PR_REFUSED_STARTING_DENSITY 21    /* starting density 0 or below, in kind 1 from vapour
@@ -249,8 +270,8 @@ uint64_t pr_turn(uint8_t *board, size_t board_len, uint8_t *record, size_t recor
 /*
  * Looks at the running job of a queue: its first job, once this has had a turn.
  *
- * Returns 0, and writes the evaluations made so far and the density of the latest one, +0 before
- * any. Or the first refusal of
+ * Returns 0, and writes the evaluations made so far and the density of the latest one, in kinds 8
+ * and 9 the sum of the partial densities; +0 before any. Or the first refusal of
  *     6 PR_REFUSED_BOARD, 1 PR_REFUSED_QUEUE, 7 PR_REFUSED_NO_RUNNING_JOB,
  * evaluations and density as they were. The board is only read.
  */

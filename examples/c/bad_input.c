@@ -36,7 +36,7 @@ static void check_number(uint64_t got, uint64_t wanted, const char *what, const 
 #define ANSWERS(call, wanted) check_number(call, wanted, #call, where, __LINE__)
 #define LENGTH(list) (sizeof(list) / sizeof *(list))
 
-#define KINDS PR_KIND_BLEND_CRITICAL_POINT
+#define KINDS PR_KIND_CRITICAL_POINT_AT_PRESSURE
 #define INTERACTIONS_MAX (PR_COMPONENTS_MAX * (PR_COMPONENTS_MAX - 1) / 2)
 
 /* Buffers are longer than they have to be: lengths that are right when cut to 16 bits, and bytes that must stay. */
@@ -51,8 +51,19 @@ static const uint64_t bad_kinds[] = {
     0, KINDS + 1, 255, 257, 65537, BEYOND_32_BITS + 1, BEYOND_63_BITS + 1, UINT64_MAX};
 static const uint64_t bad_counts[] = {
     0, PR_COMPONENTS_MAX + 1, 255, 258, 65538, BEYOND_32_BITS + 2, BEYOND_63_BITS + 2, UINT64_MAX};
-/* of PR_KIND_BLEND_CRITICAL_POINT, beside these */
+/* of the kinds that are for two components, beside these */
 static const uint64_t not_two[] = {1, 3, 4, 5, 6, 7, PR_COMPONENTS_MAX};
+static const uint64_t kinds_of_two[] = {
+    PR_KIND_BLEND_CRITICAL_POINT, PR_KIND_CRITICAL_POINT_AT_TEMPERATURE, PR_KIND_CRITICAL_POINT_AT_PRESSURE};
+
+static int is_of_two(uint64_t kind)
+{
+    for (size_t i = 0; i < LENGTH(kinds_of_two); i++)
+        if (kind == kinds_of_two[i])
+            return 1;
+    return 0;
+}
+
 static const size_t bad_board_lengths[] = {
     0, 1, PR_BOARD_BYTES - 1, PR_BOARD_BYTES + 1, PR_BOARD_BYTES + MORE};
 static const size_t bad_block_lengths[] = {
@@ -299,14 +310,18 @@ static void writer_lengths_and_counts(void)
         struct filing f = blend(PR_KIND_DENSITY);
         f.n = bad_counts[i];
         refused(&f, PR_REFUSED_COMPONENTS, where);
-        f.kind = PR_KIND_BLEND_CRITICAL_POINT;
-        refused(&f, PR_REFUSED_COMPONENTS, where);
+        for (size_t k = 0; k < LENGTH(kinds_of_two); k++) {
+            f.kind = kinds_of_two[k];
+            refused(&f, PR_REFUSED_COMPONENTS, where);
+        }
     }
     for (size_t i = 0; i < LENGTH(not_two); i++) {
-        struct filing f = equal_parts_of_propane(PR_KIND_BLEND_CRITICAL_POINT, not_two[i]);
-        refused(&f, PR_REFUSED_COMPONENTS, where);
-        f.kind = PR_KIND_CRITICAL_POINT;
+        struct filing f = equal_parts_of_propane(PR_KIND_CRITICAL_POINT, not_two[i]);
         accepted(&f, where);
+        for (size_t k = 0; k < LENGTH(kinds_of_two); k++) {
+            f.kind = kinds_of_two[k];
+            refused(&f, PR_REFUSED_COMPONENTS, where);
+        }
     }
     for (size_t i = 0; i < LENGTH(bad_block_lengths); i++) {
         struct filing f = blend(PR_KIND_DENSITY);
@@ -333,7 +348,7 @@ static void writer_lengths_and_counts(void)
             f.fractions_length = fractions[i];
             refused(&f, PR_REFUSED_PAIRS, where);
         }
-        if (kind == PR_KIND_BLEND_CRITICAL_POINT)
+        if (is_of_two(kind))
             continue;
         /* one component: an empty list of interactions, which write_block passes as NULL */
         struct filing one = equal_parts_of_propane(kind, 1);
@@ -416,11 +431,16 @@ static void data_conditions(void)
     const char *where = "data: conditions";
     for (uint64_t kind = 1; kind <= KINDS; kind++) {
         struct filing good = blend(kind), f;
-        const int of_critical_points = kind == PR_KIND_CRITICAL_POINT || kind == PR_KIND_BLEND_CRITICAL_POINT;
+        /* kind 8's temperature is where the point is, and no start */
+        const int may_lack_temperature = kind == PR_KIND_CRITICAL_POINT || kind == PR_KIND_BLEND_CRITICAL_POINT
+            || kind == PR_KIND_CRITICAL_POINT_AT_PRESSURE;
+        const int reads_pressure = kind == PR_KIND_DENSITY || kind == PR_KIND_STABLE_DENSITY
+            || kind == PR_KIND_CRITICAL_POINT_AT_PRESSURE;
+        const int reads_start = kind == PR_KIND_PRESSURE_SPINODAL || kind == PR_KIND_CRITICAL_POINT || is_of_two(kind);
         for (size_t i = 0; i < LENGTH(not_positive); i++) {
             f = good;
             f.temperature = not_positive[i];
-            if (of_critical_points && bits_of(not_positive[i]) == 0)
+            if (may_lack_temperature && bits_of(not_positive[i]) == 0)
                 accepted(&f, where); /* +0: none given */
             else
                 refused(&f, PR_REFUSED_CONDITIONS, where);
@@ -428,13 +448,13 @@ static void data_conditions(void)
         for (size_t i = 0; i < LENGTH(not_finite); i++) {
             f = good;
             f.pressure = not_finite[i];
-            if (kind == PR_KIND_DENSITY || kind == PR_KIND_STABLE_DENSITY)
+            if (reads_pressure)
                 refused(&f, PR_REFUSED_CONDITIONS, where);
             else
                 accepted(&f, where);
             f = good;
             f.start = not_finite[i];
-            if (kind == PR_KIND_PRESSURE_SPINODAL || of_critical_points)
+            if (reads_start)
                 refused(&f, PR_REFUSED_CONDITIONS, where);
             else
                 accepted(&f, where);
@@ -443,14 +463,13 @@ static void data_conditions(void)
                 refused(&f, PR_REFUSED_CONDITIONS, where);
             }
         }
-        /* the first choice out of range; kinds 2, 3 and 7 read none */
+        /* the first choice out of range; kinds 2, 3 and 7 to 9 read none */
         uint64_t choices = kind == PR_KIND_DENSITY ? PR_CHOICE_START + 1 : 2;
         const uint64_t bad_choices[] = {choices, 255, 256, 65536, BEYOND_32_BITS, BEYOND_63_BITS, UINT64_MAX};
         for (size_t i = 0; i < LENGTH(bad_choices); i++) {
             f = good;
             f.choice = bad_choices[i];
-            if (kind == PR_KIND_STABLE_DENSITY || kind == PR_KIND_PRESSURE_SPINODAL
-                || kind == PR_KIND_BLEND_CRITICAL_POINT)
+            if (kind == PR_KIND_STABLE_DENSITY || kind == PR_KIND_PRESSURE_SPINODAL || is_of_two(kind))
                 accepted(&f, where);
             else
                 refused(&f, PR_REFUSED_CHOICE, where);
@@ -548,10 +567,10 @@ static void block_pairs(void)
                 ANSWERS(status_of(kind, f.n, packed, PR_RECORD_BYTES, where), PR_REFUSED_PAIRS);
             }
         }
-        /* a block of zeros; the right block for another N, which PR_KIND_BLEND_CRITICAL_POINT has not */
+        /* a block of zeros; the right block for another N, which kinds of two components have not */
         memset(packed, 0, sizeof packed);
         ANSWERS(status_of(kind, f.n, packed, PR_RECORD_BYTES, where), PR_REFUSED_PAIRS);
-        if (kind == PR_KIND_BLEND_CRITICAL_POINT)
+        if (is_of_two(kind))
             continue;
         ANSWERS(status_of(kind, 1, good, PR_RECORD_BYTES, where), PR_REFUSED_PAIRS);
         ANSWERS(status_of(kind, 3, good, PR_RECORD_BYTES, where), PR_REFUSED_PAIRS);
@@ -570,8 +589,8 @@ static void answer_calls(void)
     for (size_t i = 0; i < LENGTH(bad_counts); i++)
         answer_refused(PR_KIND_DENSITY, bad_counts[i], PR_BLOCK_BYTES, PR_RECORD_BYTES, PR_REFUSED_COMPONENTS, where);
     for (size_t i = 0; i < LENGTH(not_two); i++)
-        answer_refused(PR_KIND_BLEND_CRITICAL_POINT, not_two[i], PR_BLOCK_BYTES, PR_RECORD_BYTES,
-                       PR_REFUSED_COMPONENTS, where);
+        for (size_t k = 0; k < LENGTH(kinds_of_two); k++)
+            answer_refused(kinds_of_two[k], not_two[i], PR_BLOCK_BYTES, PR_RECORD_BYTES, PR_REFUSED_COMPONENTS, where);
     for (size_t i = 0; i < LENGTH(bad_block_lengths); i++)
         answer_refused(PR_KIND_DENSITY, 2, bad_block_lengths[i], PR_RECORD_BYTES, PR_REFUSED_BLOCK_LENGTH, where);
     for (size_t i = 0; i < LENGTH(bad_record_lengths); i++)
@@ -630,7 +649,8 @@ static void submit_calls(void)
     for (size_t i = 0; i < LENGTH(bad_counts); i++)
         submit_refused(all, 0, PR_KIND_DENSITY, bad_counts[i], PR_BLOCK_BYTES, PR_REFUSED_COMPONENTS, where);
     for (size_t i = 0; i < LENGTH(not_two); i++)
-        submit_refused(all, 0, PR_KIND_BLEND_CRITICAL_POINT, not_two[i], PR_BLOCK_BYTES, PR_REFUSED_COMPONENTS, where);
+        for (size_t k = 0; k < LENGTH(kinds_of_two); k++)
+            submit_refused(all, 0, kinds_of_two[k], not_two[i], PR_BLOCK_BYTES, PR_REFUSED_COMPONENTS, where);
     for (size_t i = 0; i < LENGTH(bad_block_lengths); i++)
         submit_refused(all, 0, PR_KIND_DENSITY, 2, bad_block_lengths[i], PR_REFUSED_BLOCK_LENGTH, where);
 
@@ -638,9 +658,9 @@ static void submit_calls(void)
     where = "submit: a full queue";
     for (uint64_t queue = 0; queue < PR_QUEUES; queue++) {
         for (uint64_t job = 0; job < PR_QUEUE_JOBS; job++) {
-            const uint64_t kind = job % KINDS + 1;
+            const uint64_t kind = (job + queue) % KINDS + 1;
             memset(block, (int)(0x11 * job), PR_BLOCK_BYTES);
-            submit(queue, kind, kind == PR_KIND_BLEND_CRITICAL_POINT ? 2 : job + 1, job, where);
+            submit(queue, kind, is_of_two(kind) ? 2 : job + 1, job, where);
         }
         submit_refused(all, queue, PR_KIND_DENSITY, 2, PR_BLOCK_BYTES, PR_REFUSED_QUEUE_FULL, where);
     }
