@@ -19,7 +19,7 @@ pub struct Ticket {
 pub struct Look {
     /// The evaluations made so far.
     pub evaluations: u64,
-    /// The density of the latest one, 1/Å³; +0 before any.
+    /// The density of the latest one, 1/Å³, in kinds 8 and 9 the sum of the partial densities; +0 before any.
     pub density: f64,
 }
 

@@ -32,6 +32,12 @@ pub enum Kind {
     StabilitySpinodals,
     /// Critical point of a blend of two components: temperature, density.
     BlendCriticalPoint,
+    /// Critical point of two components at a set temperature, its composition searched too: partial densities of the
+    /// first and the second component.
+    CriticalPointAtTemperature,
+    /// Critical point of two components at a set pressure, its composition searched too: temperature, partial
+    /// densities of the first and the second component.
+    CriticalPointAtPressure,
 }
 
 impl Kind {
@@ -44,6 +50,8 @@ impl Kind {
         Kind::CriticalPoint,
         Kind::StabilitySpinodals,
         Kind::BlendCriticalPoint,
+        Kind::CriticalPointAtTemperature,
+        Kind::CriticalPointAtPressure,
     ];
 
     /// The kind's number in requests and records.
@@ -61,6 +69,7 @@ impl Kind {
             Kind::StableDensity => 6_204,
             Kind::PressureSpinodal | Kind::SpinodalBranch => 30,
             Kind::CriticalPoint | Kind::BlendCriticalPoint => 150,
+            Kind::CriticalPointAtTemperature | Kind::CriticalPointAtPressure => 200,
             Kind::StabilitySpinodals => 250,
         }
     }

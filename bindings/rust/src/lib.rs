@@ -36,6 +36,7 @@
 #![deny(clippy::indexing_slicing, clippy::unwrap_used, clippy::expect_used, clippy::panic)]
 #![warn(missing_docs)]
 
+mod binary;
 mod blend;
 mod board;
 #[allow(unsafe_code)]
@@ -46,6 +47,7 @@ mod refusal;
 mod request;
 pub mod units;
 
+pub use binary::BinaryCriticalPoint;
 pub use blend::{Blend, Component};
 pub use board::{Board, Look, Ticket};
 pub use kind::Kind;

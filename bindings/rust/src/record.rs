@@ -52,7 +52,7 @@ impl Record {
         Ticket { queue, number }
     }
 
-    /// The job's kind, or [`Refusal::Kind`] (2) where the byte is not 1 to 7, which no record of a board has.
+    /// The job's kind, or [`Refusal::Kind`] (2) where the byte is not 1 to 9, which no record of a board has.
     pub fn kind(&self) -> Result<Kind, Refusal> {
         let (kind, _) = self.labels();
         Kind::try_from(kind)

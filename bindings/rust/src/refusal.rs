@@ -64,8 +64,8 @@ macro_rules! refusals {
 
 refusals! {
     Queue = 1, "the queue is above 3";
-    Kind = 2, "the kind is not 1 to 7";
-    Components = 3, "the number of components is not 1 to 8, or not 2 in kind 7";
+    Kind = 2, "the kind is not 1 to 9";
+    Components = 3, "the number of components is not 1 to 8, or not 2 in kinds 7 to 9";
     QueueFull = 4, "the queue holds eight jobs";
     RecordLength = 5, "the record buffer is under 64 bytes";
     Board = 6, "the board is not 24,584 bytes, or a number stored in it is out of its range";

@@ -8,13 +8,13 @@ use std::fmt;
 #[derive(Clone, Copy, Debug, Default, PartialEq)]
 pub struct Conditions {
     /// Kind 1: 0 vapour, 1 liquid, 2 start. Kind 4: 0 vapour, 1 liquid. Kinds 5 and 6: the component, from 0.
-    /// Kinds 2, 3 and 7 do not use it.
+    /// Kinds 2, 3 and 7 to 9 do not use it.
     pub choice: u64,
-    /// Temperature, K. Kinds 5 and 7: +0 where none is given.
+    /// Temperature, K. Kinds 5, 7 and 9: +0 where none is given.
     pub temperature: f64,
-    /// Pressure, K/Å³. Kinds 1 and 2.
+    /// Pressure, K/Å³. Kinds 1, 2 and 9.
     pub pressure: f64,
-    /// Starting density, 1/Å³. Kind 1 with choice 2, kind 3, and kinds 5 and 7: there +0 where none is given.
+    /// Starting density, 1/Å³. Kind 1 with choice 2, kind 3, and kinds 5 and 7 to 9: there +0 where none is given.
     pub start: f64,
 }
 
@@ -54,11 +54,11 @@ impl Request {
     /// or not.
     ///
     /// Refused by the first of these, in this order:
-    /// - [`Refusal::Components`] (3): the blend has none or more than 8, or in kind 7 not 2;
+    /// - [`Refusal::Components`] (3): the blend has none or more than 8, or in kinds 7 to 9 not 2;
     /// - [`Pairs`](Refusal::Pairs) (11): interactions or fractions of a length that does not fit the components;
     /// - [`Coefficients`](Refusal::Coefficients) (12), in any component, used or not;
     /// - [`Interactions`](Refusal::Interactions) (13);
-    /// - in kinds 1 to 4 and 7 [`Fractions`](Refusal::Fractions) (14) and
+    /// - in all kinds but 5 and 6 [`Fractions`](Refusal::Fractions) (14) and
     ///   [`SumOfFractions`](Refusal::SumOfFractions) (17);
     /// - [`Conditions`](Refusal::Conditions) (15), of those that the kind uses;
     /// - [`Choice`](Refusal::Choice) (16).
@@ -205,6 +205,79 @@ impl Request {
         let (temperature, start) = (temperature.unwrap_or(0.0), start.unwrap_or(0.0));
         let conditions = Conditions { temperature, start, ..Conditions::default() };
         Request::new(Kind::BlendCriticalPoint, blend, conditions)
+    }
+
+    /// Kind 8: the critical point of two components at a set temperature. Its composition is searched too: the search
+    /// begins at the blend's fractions and at a density where one is given. `Some(0.0)` is the same as `None`, 0.3 of
+    /// the maximum density. There may be several such points or none, and not every one is stable; which one is found
+    /// hangs on where the search begins.
+    ///
+    /// Refused as [`new`](Request::new) says. A fraction of 0 is not, and ends the job with
+    /// [`Refusal::NotFinite`] (27).
+    ///
+    /// ```
+    /// use peng_robinson_board::{answer, BinaryCriticalPoint, Blend, Component, Refusal, Request};
+    ///
+    /// let (propane, butane) = (Component::new(369.83, 4.248e6, 0.1523), Component::new(425.12, 3.796e6, 0.2002));
+    /// let blend = Blend { components: vec![propane, butane], interactions: vec![0.003], fractions: vec![0.5, 0.5] };
+    /// let request = Request::critical_point_at_temperature(&blend, 400.0, None)?;
+    /// let point = BinaryCriticalPoint::at_temperature(400.0, answer(&request)?.outcome()?);
+    /// assert_eq!(point.partial_densities.map(f64::to_bits), [0x3F54BFE6B8B66F42, 0x3F52F11B29E6C7C2]);
+    /// let [propane_fraction, _] = point.fractions();
+    /// assert!((propane_fraction - 0.5228).abs() < 1e-4);
+    ///
+    /// // the critical point of a blend of this composition (kind 7) is the same
+    /// let there = Blend { fractions: point.fractions().to_vec(), ..blend };
+    /// let [temperature, density, _] = answer(&Request::blend_critical_point(&there, None, None)?)?.outcome()?;
+    /// assert!((temperature - 400.0).abs() < 1e-6 && (density / point.density() - 1.0).abs() < 1e-9);
+    ///
+    /// // of two components and no others
+    /// let alone = Request::critical_point_at_temperature(&Blend::pure(propane), 400.0, None);
+    /// assert_eq!(alone, Err(Refusal::Components));
+    /// # Ok::<(), Refusal>(())
+    /// ```
+    pub fn critical_point_at_temperature(
+        blend: &Blend,
+        temperature: f64,
+        start: Option<f64>,
+    ) -> Result<Request, Refusal> {
+        let conditions = Conditions { temperature, start: start.unwrap_or(0.0), ..Conditions::default() };
+        Request::new(Kind::CriticalPointAtTemperature, blend, conditions)
+    }
+
+    /// Kind 9: the critical point of two components at a set pressure, searched as
+    /// [`critical_point_at_temperature`](Request::critical_point_at_temperature) is, and from a temperature where one is
+    /// given. `Some(0.0)` is the same as `None`, 300 K; a temperature near the line is worth giving.
+    ///
+    /// Refused as [`new`](Request::new) says. A fraction of 0 is not, and ends the job with
+    /// [`Refusal::NotFinite`] (27).
+    ///
+    /// ```
+    /// use peng_robinson_board::{answer, units, BinaryCriticalPoint, Blend, Component, Refusal, Request};
+    ///
+    /// let (propane, butane) = (Component::new(369.83, 4.248e6, 0.1523), Component::new(425.12, 3.796e6, 0.2002));
+    /// let blend = Blend { components: vec![propane, butane], interactions: vec![0.003], fractions: vec![0.5, 0.5] };
+    /// let pressure = units::pressure_from_si(40e5);
+    /// let request = Request::critical_point_at_pressure(&blend, pressure, Some(400.0), None)?;
+    /// let point = BinaryCriticalPoint::at_pressure(pressure, answer(&request)?.outcome()?);
+    /// assert_eq!(point.temperature.to_bits(), 0x4079FEA3DFC59B36); // 415.92 K
+    /// assert_eq!(point.pressure, Some(pressure));
+    ///
+    /// // the point of the line at this temperature (kind 8) is the same
+    /// let request = Request::critical_point_at_temperature(&blend, point.temperature, None)?;
+    /// let there = BinaryCriticalPoint::at_temperature(point.temperature, answer(&request)?.outcome()?);
+    /// assert!((there.density() / point.density() - 1.0).abs() < 1e-9);
+    /// # Ok::<(), Refusal>(())
+    /// ```
+    pub fn critical_point_at_pressure(
+        blend: &Blend,
+        pressure: f64,
+        temperature: Option<f64>,
+        start: Option<f64>,
+    ) -> Result<Request, Refusal> {
+        let (temperature, start) = (temperature.unwrap_or(0.0), start.unwrap_or(0.0));
+        let conditions = Conditions { temperature, pressure, start, ..Conditions::default() };
+        Request::new(Kind::CriticalPointAtPressure, blend, conditions)
     }
 
     /// The request of 642 bytes: kind, number of components, block.

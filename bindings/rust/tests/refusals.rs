@@ -7,6 +7,9 @@ use common::{damaged_board, eight_components, propane, propane_butane, Numbers};
 use peng_robinson_board::DensityInitialization::{InitialDensity, Liquid};
 use peng_robinson_board::*;
 
+/// The kinds that are for two components.
+const OF_TWO: [u64; 3] = [7, 8, 9];
+
 fn spinodal() -> Request {
     Request::pressure_spinodal(&propane(), 300.0, 0.001).unwrap()
 }
@@ -43,15 +46,19 @@ fn submit_tests_6_1_2_3_8_4() {
     for queue in [4, 1 << 8, 1 << 32, u64::MAX] {
         refused(full_board(), queue, 0, 0, 0, Refusal::Queue);
     }
-    for kind in [0, 8, 1 + (1 << 8), 7 + (1 << 32), u64::MAX] {
+    for kind in [0, 10, 1 + (1 << 8), 7 + (1 << 32), u64::MAX] {
         refused(full_board(), 0, kind, 0, 0, Refusal::Kind);
     }
     for n in [0, 9, 1 + (1 << 8), 2 + (1 << 32), u64::MAX] {
         refused(full_board(), 0, 3, n, 0, Refusal::Components);
-        refused(full_board(), 0, 7, n, 0, Refusal::Components);
+        for kind in OF_TWO {
+            refused(full_board(), 0, kind, n, 0, Refusal::Components);
+        }
     }
     for n in [1, 3, 4, 5, 6, 7, 8] {
-        refused(full_board(), 0, 7, n, 640, Refusal::Components);
+        for kind in OF_TWO {
+            refused(full_board(), 0, kind, n, 640, Refusal::Components);
+        }
     }
     for length in [0, 639, 641, 65_536 + 640] {
         refused(full_board(), 0, 3, 1, length, Refusal::BlockLength);
@@ -60,7 +67,9 @@ fn submit_tests_6_1_2_3_8_4() {
     // with nothing wrong: N of 8 and any block, on a queue with a place
     let mut board = full_board();
     assert_eq!(board.submit_block(3, 6, 8, &[0xA5; 640]), Ok(Ticket { queue: 3, number: 0 }));
-    assert_eq!(board.submit_block(3, 7, 2, &[0xA5; 640]), Ok(Ticket { queue: 3, number: 1 }));
+    for (kind, number) in OF_TWO.into_iter().zip(1..) {
+        assert_eq!(board.submit_block(3, kind, 2, &[0xA5; 640]), Ok(Ticket { queue: 3, number }));
+    }
 }
 
 #[test]
@@ -77,9 +86,11 @@ fn submit_refuses_requests_of_any_bytes_alike() {
     assert_eq!(board.submit(0, &request(255, 9)), Err(Refusal::Kind));
     assert_eq!(board.submit(0, &request(3, 0)), Err(Refusal::Components));
     assert_eq!(board.submit(0, &request(3, 9)), Err(Refusal::Components));
-    assert_eq!(board.submit(0, &request(7, 1)), Err(Refusal::Components));
-    assert_eq!(answer(&request(8, 0)), Err(Refusal::Kind));
-    assert_eq!(answer(&request(7, 1)), Err(Refusal::Components));
+    for kind in [7, 8, 9] {
+        assert_eq!(board.submit(0, &request(kind, 1)), Err(Refusal::Components));
+        assert_eq!(answer(&request(kind, 1)), Err(Refusal::Components));
+    }
+    assert_eq!(answer(&request(10, 0)), Err(Refusal::Kind));
     assert_eq!(answer(&request(3, 255)), Err(Refusal::Components));
     assert_eq!(board, fresh);
 }
@@ -152,14 +163,16 @@ fn answer_tests_2_3_8_5() {
         assert_eq!(answer_block(kind, n, &vec![0; block], &mut buffer), Err(expected));
         assert!(buffer.iter().all(|byte| *byte == 0xA5), "{expected}");
     };
-    for kind in [0, 8, u64::MAX] {
+    for kind in [0, 10, u64::MAX] {
         refused(kind, 0, 0, 0, Refusal::Kind);
     }
     for n in [0, 9, u64::MAX] {
         refused(1, n, 0, 0, Refusal::Components);
     }
     for n in [0, 1, 3, 8, 9, u64::MAX] {
-        refused(7, n, 0, 0, Refusal::Components);
+        for kind in OF_TWO {
+            refused(kind, n, 0, 0, Refusal::Components);
+        }
     }
     for length in [0, 639, 641] {
         refused(1, 1, length, 0, Refusal::BlockLength);
@@ -275,32 +288,47 @@ fn sums_of_fractions() {
         assert!(Request::critical_point(&blend, 0, None, None).is_ok());
         assert!(Request::stability_spinodals(&blend, 0, 300.0).is_ok());
     }
-    let of_two = |fractions: [f64; 2]| {
-        let blend = Blend { fractions: fractions.to_vec(), ..propane_butane() };
-        Request::blend_critical_point(&blend, None, None)
-    };
     for fractions in [[0.6, 0.4], [0.6, 0.4 + 0.9e-9], [0.6, 0.4 - 0.9e-9], [1.0, 0.0]] {
-        assert!(of_two(fractions).is_ok());
+        assert!(of_two(&with_fractions(fractions)).iter().all(Result::is_ok));
     }
     for fractions in [[60.0, 40.0], [0.6, 0.4 + 1.1e-9], [0.6, 0.4 - 1.1e-9], [0.0, 0.0]] {
-        assert_eq!(of_two(fractions), Err(Refusal::SumOfFractions));
+        all_refused(of_two(&with_fractions(fractions)), Refusal::SumOfFractions);
     }
     for fractions in [[1.4, -0.4], [1.0, -0.0], [f64::NAN, 0.4], [0.6, f64::INFINITY]] {
-        assert_eq!(of_two(fractions), Err(Refusal::Fractions));
+        all_refused(of_two(&with_fractions(fractions)), Refusal::Fractions);
     }
 }
 
-/// Kind 7 is for two components, and 3 comes before whatever else is wrong with the blend.
+fn with_fractions(fractions: [f64; 2]) -> Blend {
+    Blend { fractions: fractions.to_vec(), ..propane_butane() }
+}
+
+/// The requests of kinds 7 to 9 for a blend.
+fn of_two(blend: &Blend) -> [Result<Request, Refusal>; 3] {
+    [
+        Request::blend_critical_point(blend, None, None),
+        Request::critical_point_at_temperature(blend, 400.0, None),
+        Request::critical_point_at_pressure(blend, 0.29, None, None),
+    ]
+}
+
+fn all_refused<const N: usize>(requests: [Result<Request, Refusal>; N], expected: Refusal) {
+    for request in requests {
+        assert_eq!(request, Err(expected));
+    }
+}
+
+/// Kinds 7 to 9 are for two components, and 3 comes before whatever else is wrong with the blend.
 #[test]
-fn the_critical_point_of_a_blend_is_for_two_components() {
+fn critical_points_of_blends_are_for_two_components() {
     let unfit = |n| {
         let components = vec![Component::new(f64::NAN, f64::NAN, f64::NAN); n];
         Blend { components, interactions: Vec::new(), fractions: Vec::new() }
     };
     for blend in [propane(), eight_components(), unfit(0), unfit(1), unfit(3), unfit(9)] {
-        assert_eq!(Request::blend_critical_point(&blend, None, None), Err(Refusal::Components));
+        all_refused(of_two(&blend), Refusal::Components);
     }
-    assert_eq!(Request::blend_critical_point(&unfit(2), None, None), Err(Refusal::Pairs));
+    all_refused(of_two(&unfit(2)), Refusal::Pairs);
 }
 
 /// What each maker of requests uses of its arguments, and what it refuses of them.
@@ -315,6 +343,9 @@ fn conditions_that_are_used() {
         assert_eq!(Request::pressure_spinodal(&blend, 300.0, odd), refused);
         assert_eq!(Request::critical_point(&blend, 0, None, Some(odd)), refused);
         assert_eq!(Request::blend_critical_point(&blend, None, Some(odd)), refused);
+        assert_eq!(Request::critical_point_at_temperature(&blend, 400.0, Some(odd)), refused);
+        assert_eq!(Request::critical_point_at_pressure(&blend, odd, None, None), refused);
+        assert_eq!(Request::critical_point_at_pressure(&blend, 0.29, None, Some(odd)), refused);
     }
     for odd in [f64::NAN, f64::INFINITY, -300.0, -0.0] {
         assert_eq!(Request::density(&blend, odd, 0.05, Liquid), refused);
@@ -324,9 +355,12 @@ fn conditions_that_are_used() {
         assert_eq!(Request::critical_point(&blend, 0, Some(odd), None), refused);
         assert_eq!(Request::stability_spinodals(&blend, 0, odd), refused);
         assert_eq!(Request::blend_critical_point(&blend, Some(odd), None), refused);
+        assert_eq!(Request::critical_point_at_temperature(&blend, odd, None), refused);
+        assert_eq!(Request::critical_point_at_pressure(&blend, 0.29, Some(odd), None), refused);
     }
-    // +0 is a temperature in kinds 5 and 7 only, where it is none
+    // +0 is a temperature in kinds 5, 7 and 9 only, where it is none
     assert_eq!(Request::stability_spinodals(&blend, 0, 0.0), refused);
+    assert_eq!(Request::critical_point_at_temperature(&blend, 0.0, None), refused);
     assert_eq!(
         Request::critical_point(&blend, 0, Some(0.0), Some(0.0)),
         Request::critical_point(&blend, 0, None, None)
@@ -335,9 +369,24 @@ fn conditions_that_are_used() {
         Request::blend_critical_point(&blend, Some(0.0), Some(0.0)),
         Request::blend_critical_point(&blend, None, None)
     );
-    // kind 7 uses neither choice nor pressure
-    let odd = Conditions { choice: u64::MAX, pressure: f64::NAN, ..Conditions::default() };
+    assert_eq!(
+        Request::critical_point_at_temperature(&blend, 400.0, Some(0.0)),
+        Request::critical_point_at_temperature(&blend, 400.0, None)
+    );
+    assert_eq!(
+        Request::critical_point_at_pressure(&blend, 0.29, Some(0.0), Some(0.0)),
+        Request::critical_point_at_pressure(&blend, 0.29, None, None)
+    );
+    // any finite pressure is one
+    for pressure in [0.0, -0.0, -1.0, f64::MAX, f64::MIN_POSITIVE] {
+        assert!(Request::critical_point_at_pressure(&blend, pressure, None, None).is_ok());
+    }
+    // kinds 7 to 9 use no choice, kinds 7 and 8 no pressure
+    let odd = Conditions { choice: u64::MAX, temperature: 400.0, pressure: f64::NAN, start: 0.0 };
     assert!(Request::new(Kind::BlendCriticalPoint, &blend, odd).is_ok());
+    assert!(Request::new(Kind::CriticalPointAtTemperature, &blend, odd).is_ok());
+    assert_eq!(Request::new(Kind::CriticalPointAtPressure, &blend, odd), refused);
+    assert!(Request::new(Kind::CriticalPointAtPressure, &blend, Conditions { pressure: 0.29, ..odd }).is_ok());
     for component in [2, 8, u64::MAX] {
         assert_eq!(Request::critical_point(&blend, component, None, None), Err(Refusal::Choice));
         assert_eq!(Request::stability_spinodals(&blend, component, 300.0), Err(Refusal::Choice));

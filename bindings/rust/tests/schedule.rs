@@ -6,8 +6,8 @@ use common::{propane_butane, Random};
 use peng_robinson_board::*;
 use std::collections::VecDeque;
 
-/// The spans of kinds 1 to 7, from documents 01 and 02.
-const SPANS: [u64; 7] = [3_101, 6_204, 30, 30, 150, 250, 150];
+/// The spans of kinds 1 to 9, from documents 01 and 02.
+const SPANS: [u64; 9] = [3_101, 6_204, 30, 30, 150, 250, 150, 200, 200];
 
 /// A request of a kind. Its data are in order for every kind.
 fn request(kind: u64) -> Request {
@@ -74,8 +74,8 @@ impl Schedule {
     fn submit(&mut self, queue: u64, kind: u64, n: u64, block_length: usize) -> Result<u64, u64> {
         match () {
             () if queue > 3 => Err(1),
-            () if !(1..=7).contains(&kind) => Err(2),
-            () if !(1..=8).contains(&n) || (kind == 7 && n != 2) => Err(3),
+            () if !(1..=9).contains(&kind) => Err(2),
+            () if !(1..=8).contains(&n) || (kind >= 7 && n != 2) => Err(3),
             () if block_length != 640 => Err(8),
             () if self.held[queue as usize].len() == 8 => Err(4),
             () => {
@@ -123,7 +123,7 @@ fn random_calls_are_answered_as_the_schedule_says() {
         match random.below(15) {
             0 => {
                 // mostly short kinds and good arguments
-                let kind = [3, 4, 3, 4, 3, 5, 6, 7, 0, 8, 1 << 32][random.below(11) as usize];
+                let kind = [3, 4, 3, 4, 3, 5, 6, 7, 8, 9, 0, 10, 1 << 32][random.below(13) as usize];
                 let queue = random.below(5);
                 let n = [1, 2, 3, 8, 2, 2, 0, 9][random.below(8) as usize];
                 let length = [640, 640, 640, 639, 641, 0][random.below(6) as usize];

@@ -101,6 +101,54 @@ fn cases() -> Vec<(Request, &'static str)> {
             Request::blend_critical_point(&without_butane, Some(350.0), None),
             "7 27 0000000000000000 0000000000000000 0000000000000000 1",
         ),
+        (
+            Request::critical_point_at_temperature(&two, 400.0, None),
+            "8 0 3F54BFE6B8B66F4A 3F52F11B29E6C7E2 0000000000000000 4",
+        ),
+        (
+            Request::critical_point_at_temperature(&two, 380.0, Some(0.002)),
+            "8 0 3F625D3E23B78C72 3F39479952F04DD5 0000000000000000 7",
+        ),
+        (
+            Request::critical_point_at_temperature(&repelling, 300.0, None),
+            "8 0 3F36DF50A1728215 3F36DF50A172821E 0000000000000000 7",
+        ),
+        (
+            Request::critical_point_at_temperature(&two, 500.0, None),
+            "8 22 0000000000000000 0000000000000000 0000000000000000 200",
+        ),
+        (
+            Request::critical_point_at_temperature(&alike, 5000.0, None),
+            "8 23 0000000000000000 0000000000000000 0000000000000000 1",
+        ),
+        (
+            Request::critical_point_at_temperature(&without_butane, 400.0, None),
+            "8 27 0000000000000000 0000000000000000 0000000000000000 1",
+        ),
+        (
+            Request::critical_point_at_pressure(&two, 0.29, Some(400.0), None),
+            "9 0 4079FB6B082ED6DA 3F3F2011DB424AE5 3F5CBC969F774ACB 7",
+        ),
+        (
+            Request::critical_point_at_pressure(&two, 0.29, None, None),
+            "9 0 4079FB6B082ED6DC 3F3F2011DB424AF7 3F5CBC969F774AD4 86",
+        ),
+        (
+            Request::critical_point_at_pressure(&two, 0.31, Some(380.0), Some(0.002)),
+            "9 0 407890D30C1F185A 3F5A6775A1EF9CF9 3F4D1D0944E2508B 8",
+        ),
+        (
+            Request::critical_point_at_pressure(&two, 1.0, Some(400.0), None),
+            "9 22 0000000000000000 0000000000000000 0000000000000000 200",
+        ),
+        (
+            Request::critical_point_at_pressure(&alike, 0.3, Some(5000.0), None),
+            "9 23 0000000000000000 0000000000000000 0000000000000000 3",
+        ),
+        (
+            Request::critical_point_at_pressure(&without_butane, 0.29, Some(400.0), None),
+            "9 27 0000000000000000 0000000000000000 0000000000000000 1",
+        ),
     ];
     let made = cases.into_iter().map(|(request, line)| (request.expect(line), line));
     let mut cases: Vec<_> = made.collect();
@@ -169,6 +217,12 @@ fn written_blocks_are_packed_from_16() {
     let request = Request::blend_critical_point(&blend, Some(350.0), Some(0.002)).unwrap();
     assert_eq!((request.kind(), request.components()), (7, 2));
     assert_eq!(*request.block(), Numbers::of(&blend, 0, 350.0, 0.0, 0.002).block());
+    let request = Request::critical_point_at_temperature(&blend, 400.0, Some(0.002)).unwrap();
+    assert_eq!((request.kind(), request.components()), (8, 2));
+    assert_eq!(*request.block(), Numbers::of(&blend, 0, 400.0, 0.0, 0.002).block());
+    let request = Request::critical_point_at_pressure(&blend, 0.29, Some(400.0), Some(0.002)).unwrap();
+    assert_eq!((request.kind(), request.components()), (9, 2));
+    assert_eq!(*request.block(), Numbers::of(&blend, 0, 400.0, 0.29, 0.002).block());
 }
 
 /// The sealed bytes of `answer_block`; bytes 0 to 15 and those from 64 on stay.
@@ -232,6 +286,65 @@ fn critical_temperatures_of_blends_lie_between_those_of_their_components() {
     assert!(line.is_sorted_by(|lower, upper| lower < upper), "{line:?}");
 }
 
+fn values_of(request: Result<Request, Refusal>) -> [f64; 3] {
+    answer(&request.unwrap()).unwrap().outcome().unwrap()
+}
+
+/// Whether two numbers are the same but for one part in 10^9.
+fn near(found: f64, expected: f64) -> bool {
+    (found / expected - 1.0).abs() < 1e-9
+}
+
+/// Temperatures between those of the components have a point of the line each, with the less propane the higher they
+/// are. Of its composition, kind 7 finds the same point; kind 1 comes to its density at a pressure at which kind 9
+/// comes to it too.
+#[test]
+fn points_of_the_critical_line_are_those_of_other_kinds() {
+    let (mut before, blend) = (1.0, propane_butane());
+    for temperature in (371..=424).map(f64::from) {
+        let values = values_of(Request::critical_point_at_temperature(&blend, temperature, None));
+        let point = BinaryCriticalPoint::at_temperature(temperature, values);
+        let [propane, butane] = point.fractions();
+        assert!(0.0 < propane && propane < before && (propane + butane - 1.0).abs() < 1e-15, "{temperature}");
+        before = propane;
+
+        let there = Blend { fractions: vec![propane, butane], ..blend.clone() };
+        let [found, density, _] = values_of(Request::blend_critical_point(&there, None, None));
+        assert!(near(found, temperature) && near(density, point.density()), "{temperature}");
+
+        // the pressure lies below the ideal gas's
+        let (mut low, mut high) = (0.0, point.density() * temperature);
+        for _ in 0..60 {
+            let middle = 0.5 * (low + high);
+            let start = InitialDensity(point.density());
+            let [density, ..] = values_of(Request::density(&there, temperature, middle, start));
+            if density < point.density() {
+                low = middle;
+            } else {
+                high = middle;
+            }
+        }
+        let request =
+            Request::critical_point_at_pressure(&there, low, Some(temperature), Some(point.density()));
+        let found = BinaryCriticalPoint::at_pressure(low, values_of(request));
+        assert!(
+            near(found.temperature, temperature) && near(found.density(), point.density()),
+            "{temperature}"
+        );
+    }
+}
+
+#[test]
+fn a_point_of_the_critical_line_has_its_sum_and_fractions() {
+    let point = BinaryCriticalPoint::at_temperature(400.0, [0.003, 0.001, 0.0]);
+    let expected =
+        BinaryCriticalPoint { temperature: 400.0, pressure: None, partial_densities: [0.003, 0.001] };
+    assert_eq!(point, expected);
+    assert_eq!((point.density(), point.fractions()), (0.004, [0.75, 0.25]));
+    let point = BinaryCriticalPoint::at_pressure(0.29, [400.0, 0.003, 0.001]);
+    assert_eq!(point, BinaryCriticalPoint { pressure: Some(0.29), ..expected });
+}
+
 /// The densities that `oracle --trace` printed for the first case, evaluation by evaluation.
 const DENSITIES: [u64; 9] = [
     0x3F81AF3A371CF348,
@@ -245,13 +358,34 @@ const DENSITIES: [u64; 9] = [
     0x3F7B5EDAFF5A36A6,
 ];
 
+/// The sums of the partial densities that it printed for the first cases of kinds 8 and 9.
+const SUMS_AT_TEMPERATURE: [u64; 4] =
+    [0x3F6538AC4222BD89, 0x3F63FCF8604ECDDE, 0x3F63D8AEEBA29C8E, 0x3F63D880F199489C];
+const SUMS_AT_PRESSURE: [u64; 7] = [
+    0x3F6538AC4222BD89,
+    0x3F64A39FC0191DA4,
+    0x3F63FD6A6C400958,
+    0x3F634458574FF733,
+    0x3F627353AB18A142,
+    0x3F624217AEEE6B77,
+    0x3F62424D8546F99A,
+];
+
 /// A look shows the lesser of the turns had and the evaluations of the whole search, and the density of the latest one.
 #[test]
 fn a_look_shows_the_latest_evaluation() {
-    let densities = DENSITIES.map(f64::from_bits);
-    let (request, _) = cases().swap_remove(0);
+    let first = |kind| {
+        cases().into_iter().map(|(request, _)| request).find(|request| request.kind() == kind).unwrap()
+    };
+    looks_show(&first(1), &DENSITIES);
+    looks_show(&first(8), &SUMS_AT_TEMPERATURE);
+    looks_show(&first(9), &SUMS_AT_PRESSURE);
+}
+
+fn looks_show(request: &Request, densities: &[u64]) {
+    let densities: Vec<f64> = densities.iter().map(|bits| f64::from_bits(*bits)).collect();
     let mut board = Board::new();
-    board.submit(0, &request).unwrap();
+    board.submit(0, request).unwrap();
     for turns in 1..=20 {
         assert_eq!(board.turn(), Ok(None));
         let evaluations = densities.len().min(turns);

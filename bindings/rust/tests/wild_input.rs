@@ -88,7 +88,7 @@ fn requests_of_any_bytes() {
         let mut bytes = random.bytes(REQUEST_BYTES);
         // now and then a kind, a number of components and pairs that fit
         if random.below(2) == 0 {
-            bytes[0] = 1 + random.below(7) as u8;
+            bytes[0] = 1 + random.below(9) as u8;
             bytes[1] = 1 + random.below(8) as u8;
         }
         if random.below(2) == 0 {
@@ -107,7 +107,7 @@ fn requests_of_any_bytes() {
 fn call(board: &mut Board, random: &mut Random) {
     let before = board.clone();
     let queue = if random.below(8) == 0 { random.bits() } else { random.below(5) };
-    let kind = if random.below(8) == 0 { random.bits() } else { random.below(9) };
+    let kind = if random.below(8) == 0 { random.bits() } else { random.below(11) };
     let n = if random.below(8) == 0 { random.bits() } else { random.below(10) };
     let length = if random.below(4) == 0 { random.below(1_000) as usize } else { 640 };
     let block = random.bytes(length);
@@ -159,7 +159,7 @@ fn damaged_boards() {
     let mut running = Board::new();
     for queue in 0..QUEUES {
         // each queue runs another kind
-        let mut kinds = [7, 1, 3, 5, 6];
+        let mut kinds = [7, 8, 9, 1, 3, 5, 6];
         kinds.rotate_left(queue as usize);
         for kind in kinds {
             let conditions = Conditions { choice: 1, temperature: 300.0, pressure: 0.05, start: 0.001 };
@@ -216,7 +216,7 @@ fn records_of_any_bytes() {
         assert_eq!(record.ticket().queue, u64::from(bytes[9]));
         match record.kind() {
             Ok(kind) => assert_eq!(kind.number(), u64::from(bytes[8])),
-            Err(refusal) => assert!(!(1..=7).contains(&bytes[8]) && refusal == Refusal::Kind),
+            Err(refusal) => assert!(!(1..=9).contains(&bytes[8]) && refusal == Refusal::Kind),
         }
         assert_eq!(record.sealed().outcome(), Err(Refusal::Other(record.sealed().status)));
     }
@@ -232,7 +232,7 @@ fn numbers_without_a_name_are_kept() {
         assert_eq!(refusal == Refusal::Other(number), !named);
         assert_eq!(Refusal::ALL.contains(&refusal), named);
         assert_eq!(refusal.to_string(), format!("refused by {number}: {}", refusal.message()));
-        assert_eq!(Kind::try_from(number).is_ok(), (1..=7).contains(&number));
+        assert_eq!(Kind::try_from(number).is_ok(), (1..=9).contains(&number));
     }
 }
 
