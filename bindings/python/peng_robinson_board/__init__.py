@@ -4,6 +4,7 @@ from . import components, units
 from .blend import Blend, Component
 from .board import Board, Look, Ticket
 from .calculations import (
+    BinaryCriticalPoint,
     CriticalPoint,
     Density,
     Spinodal,
@@ -11,6 +12,8 @@ from .calculations import (
     answer,
     blend_critical_point,
     critical_point,
+    critical_point_at_pressure,
+    critical_point_at_temperature,
     density,
     pressure_spinodal,
     spinodal,
@@ -31,6 +34,7 @@ __all__ = [
     "QUEUES",
     "RECORD_BYTES",
     "REQUEST_BYTES",
+    "BinaryCriticalPoint",
     "Blend",
     "Board",
     "Choice",
@@ -51,6 +55,8 @@ __all__ = [
     "blend_critical_point",
     "components",
     "critical_point",
+    "critical_point_at_pressure",
+    "critical_point_at_temperature",
     "density",
     "pressure_spinodal",
     "spinodal",

@@ -18,7 +18,8 @@ class Ticket(NamedTuple):
 
 
 class Look(NamedTuple):
-    """A running job's evaluations so far and the reduced density of the latest one, 0 before any."""
+    """A running job's evaluations so far and the reduced density of the latest one, in kinds 8 and 9 the sum of the
+    partial densities; 0 before any."""
 
     evaluations: int
     density: float

@@ -34,6 +34,28 @@ class CriticalPoint:
 
 
 @dataclass(frozen=True)
+class BinaryCriticalPoint:
+    """A point of the critical line of two components."""
+
+    temperature: float  # set in kind 8, found in kind 9
+    pressure: Optional[float]  # set in kind 9; kind 8 hands none out
+    partial_densities: Tuple[float, float]
+    evaluations: int
+    record: Record
+
+    @property
+    def density(self) -> float:
+        """The sum of the partial densities."""
+        return sum(self.partial_densities)
+
+    @property
+    def fractions(self) -> Tuple[float, float]:
+        """Each partial density over their sum."""
+        first, second = self.partial_densities
+        return first / self.density, second / self.density
+
+
+@dataclass(frozen=True)
 class StabilitySpinodals:
     vapor_density: float
     liquid_density: float
@@ -108,3 +130,22 @@ def blend_critical_point(
     may have several or none; which one is found hangs on where the search begins. Both fractions have to be above 0."""
     record, (found, critical_density) = _answered(Request.blend_critical_point(blend, temperature, start))
     return CriticalPoint(found, critical_density, record.evaluations, record)
+
+
+def critical_point_at_temperature(
+    blend: Blend, temperature: float, start: Optional[float] = None
+) -> BinaryCriticalPoint:
+    """Critical point of two components at a temperature, its composition searched too, from the blend's fractions and
+    from a density if given (kind 8). There may be several or none, and not every one is stable; which one is found hangs
+    on where the search begins. Both fractions have to be above 0."""
+    record, (first, second) = _answered(Request.critical_point_at_temperature(blend, temperature, start))
+    return BinaryCriticalPoint(temperature, None, (first, second), record.evaluations, record)
+
+
+def critical_point_at_pressure(
+    blend: Blend, pressure: float, temperature: Optional[float] = None, start: Optional[float] = None
+) -> BinaryCriticalPoint:
+    """Critical point of two components at a pressure, searched as at a temperature, and from a temperature if given, else
+    from 300 K (kind 9). A temperature near the line is worth giving."""
+    record, (found, first, second) = _answered(Request.critical_point_at_pressure(blend, pressure, temperature, start))
+    return BinaryCriticalPoint(found, pressure, (first, second), record.evaluations, record)

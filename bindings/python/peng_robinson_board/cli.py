@@ -20,6 +20,7 @@ Every number comes from the proved library. Given and shown are K, Pa and mol/m^
   prboard density propane=0.6 butane=0.4 --temperature 300 --pressure 5e5 --phase liquid
   prboard spinodal propane --temperature 300
   prboard critical propane=0.6 butane=0.4
+  prboard critical-line propane butane --temperature 375:420:5
   prboard write stable propane=0.6 butane=0.4 --temperature 300 --pressure 5e5 | prboard answer -
 
 Exit status: 0 done; 1 bad usage, or a file or the library at fault; 2 a refusal, told with its number.

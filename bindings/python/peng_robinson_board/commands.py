@@ -4,7 +4,7 @@ import sys
 from dataclasses import dataclass
 from typing import Any, Callable, Dict, List, Optional, Tuple
 
-from . import kinds
+from . import kinds, lines
 from .arguments import (
     PHASES,
     Usage,
@@ -208,30 +208,38 @@ def _critical_arguments(parser: argparse.ArgumentParser) -> None:
     )
 
 
-# name, what it does, its arguments, its task
-CALCULATIONS: List[Tuple[str, str, Callable[..., None], Callable[..., Task]]] = [
-    ("density", "density at a temperature and pressure (kind 1)", _density_arguments, density_task),
-    ("stable", "density of the stable phase (kind 2)", _stable_arguments, stable_task),
-    ("spinodal", "spinodals at a temperature (kinds 4, 3 and 6)", _spinodal_arguments, spinodal_task),
+# name, what it does, its arguments, its task, its run
+CALCULATIONS: List[Tuple[str, str, Callable[..., None], Callable[..., Any], Callable[..., int]]] = [
+    ("density", "density at a temperature and pressure (kind 1)", _density_arguments, density_task, run_calculation),
+    ("stable", "density of the stable phase (kind 2)", _stable_arguments, stable_task, run_calculation),
+    ("spinodal", "spinodals at a temperature (kinds 4, 3 and 6)", _spinodal_arguments, spinodal_task, run_calculation),
     (
         "critical",
         "critical point of a component (kind 5) or of a blend of two (kind 7)",
         _critical_arguments,
         critical_task,
+        run_calculation,
+    ),
+    (
+        "critical-line",
+        "critical points of two components at a temperature (kind 8) or pressure (kind 9), one or a table",
+        lines.line_arguments,
+        lines.line_task,
+        lines.run_line,
     ),
 ]
 
 
 def add_parsers(subparsers: Any) -> None:
-    for name, what, add_arguments, task in CALCULATIONS:
+    for name, what, add_arguments, task, run in CALCULATIONS:
         parser = subparsers.add_parser(name, help=what, description=what)
         add_arguments(parser)
         output_arguments(parser)
-        parser.set_defaults(run=run_calculation, task=task, prog=parser.prog)
-    what = "write the request of a calculation to a file, 642 bytes; for both spinodals two requests"
+        parser.set_defaults(run=run, task=task, prog=parser.prog)
+    what = "write the request of a calculation to a file, 642 bytes; for both spinodals two requests, for a table many"
     writer = subparsers.add_parser("write", help=what, description=what)
     requests = writer.add_subparsers(metavar="CALCULATION", required=True)
-    for name, what, add_arguments, task in CALCULATIONS:
+    for name, what, add_arguments, task, _ in CALCULATIONS:
         parser = requests.add_parser(name, help=what, description=f"request for: {what}")
         add_arguments(parser)
         parser.add_argument("-o", "--output", metavar="FILE", help="file to write; standard output where none is named")

@@ -1,5 +1,5 @@
 """The numbers of `prboard plot`, collected from the proved calls, in SI: isotherms up to their spinodals, the spinodal dome
-over temperature, and a density search as looks at a board show it."""
+over temperature, the critical line of two components, and a density search as looks at a board show it."""
 from typing import Any, Callable, Dict, Iterable, List, Optional, Tuple, Union
 
 from . import calculations
@@ -8,6 +8,7 @@ from .blend import Blend
 from .board import Board
 from .kinds import DESCRIPTIONS, Kind
 from .library import QUEUES
+from .lines import pressure_there
 from .refusals import Refusal, Refused
 from .request import Request
 from .units import DENSITY, PRESSURE, TEMPERATURE
@@ -23,6 +24,7 @@ BRANCH_POINTS = 80
 SUPERCRITICAL_POINTS = 160
 DOME_POINTS = 120
 STABILITY_EVERY = 6  # of the dome's temperatures one in so many is asked of kind 6 too
+LINE_POINTS = 60
 SAME_DENSITY = 1e-6  # kinds 4 and 6 agree within this part of the density
 
 # the search had data that it could use and found nothing: no such phase, spinodal or branch there
@@ -281,6 +283,61 @@ def _stability_spinodals(blend: Blend, point: Numbers) -> Optional[Numbers]:
             abs(answer.liquid_density / point["liquid"]["density"] - 1.0),
         ),
     }
+
+
+def _line_points(blend: Blend, temperatures: Iterable[float]) -> List[Numbers]:
+    """Points of the critical line (kind 8), each searched from the one before, or, where that fails, from the blend's
+    fractions; temperatures without one are dropped."""
+    points: List[Numbers] = []
+    begin = blend
+    start: Optional[float] = None
+    for temperature in temperatures:
+        found = _found(calculations.critical_point_at_temperature, begin, temperature, start)
+        if found is None and start is not None:
+            found = _found(calculations.critical_point_at_temperature, blend, temperature)
+        if found is None:
+            continue
+        points.append(
+            {
+                "temperature": temperature,
+                "pressure": pressure_there(blend, found),
+                "fractions": list(found.fractions),
+                "density": found.density,
+            }
+        )
+        begin, start = Blend(blend.components, found.fractions, blend.interactions), found.density
+    return points
+
+
+def critical_line(
+    blend: Blend, lowest_temperature: Optional[float] = None, highest_temperature: Optional[float] = None
+) -> Numbers:
+    """Points of the critical line of two components by kind 8, their pressures by kinds 1 and 9, between the critical
+    temperatures of the two (kind 5) or those given."""
+    # other than two components, and what is no temperature at all, are refused by their numbers
+    for temperature in (lowest_temperature, highest_temperature, blend.components[0].critical_temperature):
+        if temperature is not None:
+            Request.critical_point_at_temperature(blend, temperature)
+    ends = [_critical_point(Blend.pure(one)) for one in blend.components]
+    between = sorted(end["temperature"] for end in ends if end is not None)
+    lowest = between[0] if lowest_temperature is None else lowest_temperature
+    highest = between[-1] if highest_temperature is None else highest_temperature
+    if not lowest < highest:
+        raise Usage(f"the lowest temperature {lowest:g} K is not below the highest, {highest:g} K")
+    temperatures = [lowest + (highest - lowest) * step / LINE_POINTS for step in range(1, LINE_POINTS)]
+    # from the middle to both sides
+    half = len(temperatures) // 2
+    points = _line_points(blend, temperatures[half:])
+    points = [*reversed(_line_points(blend, reversed(temperatures[:half]))), *points]
+    if not points:
+        raise Usage("nothing to draw: no search for a point of the critical line (kind 8) converged")
+    notes: List[str] = []
+    if len(points) < len(temperatures):
+        notes.append(f"{len(temperatures) - len(points)} temperatures are left out: the search for a point fails there.")
+    without = sum(point["pressure"] is None for point in points)
+    if without:
+        notes.append(f"{without} points have no pressure: kind 9 does not come back to them.")
+    return {**_head("critical-line", blend), "points": points, "critical_points": ends, "notes": notes}
 
 
 def convergence(blend: Blend, temperature: float, pressure: float, phase: Union[str, float]) -> Numbers:

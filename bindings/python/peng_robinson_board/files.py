@@ -167,7 +167,7 @@ def answer_line(outcome: Outcome, label: str, arguments: argparse.Namespace) -> 
         values = values_of(outcome, arguments)
         listed = ", ".join(f"{name.replace('_', ' ')} {text(number)} {unit}" for name, number, unit in values)
         said = f"{listed}; {outcome.evaluations} evaluations"
-    return f"{label:>6}  kind {outcome.kind}  {kinds.title(outcome.kind):<30}  {said}"
+    return f"{label:>6}  kind {outcome.kind}  {kinds.title(outcome.kind):<31}  {said}"
 
 
 def run_answer(arguments: argparse.Namespace) -> int:

@@ -14,6 +14,8 @@ class Kind(IntEnum):
     CRITICAL_POINT = 5
     STABILITY_SPINODALS = 6
     BLEND_CRITICAL_POINT = 7
+    CRITICAL_POINT_AT_TEMPERATURE = 8
+    CRITICAL_POINT_AT_PRESSURE = 9
 
 
 class Choice(IntEnum):
@@ -44,6 +46,8 @@ class Description:
 _temperature = Value("temperature", TEMPERATURE)
 _pressure = Value("pressure", PRESSURE)
 _density = Value("density", DENSITY)
+# of the first and the second component
+_partial_densities = (Value("partial_density_1", DENSITY), Value("partial_density_2", DENSITY))
 
 DESCRIPTIONS = {
     Kind.DENSITY: Description("density from a start", 3101, (_density,)),
@@ -57,6 +61,10 @@ DESCRIPTIONS = {
         "stability spinodals", 250, (Value("vapor_density", DENSITY), Value("liquid_density", DENSITY))
     ),
     Kind.BLEND_CRITICAL_POINT: Description("critical point of a blend", 150, (_temperature, _density)),
+    Kind.CRITICAL_POINT_AT_TEMPERATURE: Description("critical point at a temperature", 200, _partial_densities),
+    Kind.CRITICAL_POINT_AT_PRESSURE: Description(
+        "critical point at a pressure", 200, (_temperature, *_partial_densities)
+    ),
 }
 
 

@@ -6,7 +6,7 @@ import json
 import math
 import sys
 from dataclasses import dataclass, field
-from typing import Any, Dict, List, Optional, Tuple
+from typing import Any, Dict, Iterable, List, Optional, Tuple
 
 from . import kinds, refusals
 from .record import Record, bits
@@ -14,12 +14,14 @@ from .record import Record, bits
 
 @dataclass(frozen=True)
 class Outcome:
-    """A job's record, or the refusal of its call or of the writer; `fields` are named before its kind."""
+    """A job's record, or the refusal of its call or of the writer; `fields` are named before its kind. `more` are reduced
+    numbers that are shown after the record's own, and not as bits."""
 
     kind: int
     record: Optional[Record] = None
     refusal: int = 0
     fields: Dict[str, Any] = field(default_factory=dict)
+    more: Tuple[Tuple[kinds.Value, float], ...] = ()
 
     @property
     def status(self) -> int:
@@ -55,7 +57,8 @@ def values_of(outcome: Outcome, arguments: argparse.Namespace) -> List[Tuple[str
         return []
     if kinds.describe(record.kind) is None:
         return [(f"value_{place}", digits, "bits") for place, digits in enumerate(record.bits, 1)]
-    return [(value.name, *shown(value, reduced, arguments)) for value, reduced in record.handed_out()]
+    more = () if arguments.bits else outcome.more
+    return [(value.name, *shown(value, reduced, arguments)) for value, reduced in (*record.handed_out(), *more)]
 
 
 def text(number: Any) -> str:
@@ -97,21 +100,23 @@ def _number(value: Any) -> Any:
 
 
 class Machine:
-    """Writes outcomes for machines, JSON or CSV as the options ask."""
+    """Writes outcomes for machines, JSON or CSV as the options ask. A table has a column for every value of every kind,
+    or for those that are named."""
 
-    def __init__(self, arguments: argparse.Namespace, fields: List[str]) -> None:
+    def __init__(
+        self, arguments: argparse.Namespace, fields: List[str], values: Optional[Iterable[kinds.Value]] = None
+    ) -> None:
         self.arguments = arguments
         self.fields = fields
         self.writer = csv.writer(sys.stdout, lineterminator="\n")
         self.columns: List[str] = []
         if arguments.csv:
-            units = {}
-            for description in kinds.DESCRIPTIONS.values():
-                for value in description.values:
-                    units[value.name] = shown(value, 0.0, arguments)[1]
+            if values is None:
+                values = [value for description in kinds.DESCRIPTIONS.values() for value in description.values]
+            units = {value.name: shown(value, 0.0, arguments)[1] for value in values}
             self.columns = list(units)
-            values = [f"{name} [{unit}]" for name, unit in units.items()]
-            self.writer.writerow([*fields, "kind", "name", "status", "refusal", *values, "evaluations"])
+            named = [f"{name} [{unit}]" for name, unit in units.items()]
+            self.writer.writerow([*fields, "kind", "name", "status", "refusal", *named, "evaluations"])
 
     def write(self, outcome: Outcome) -> None:
         values = values_of(outcome, self.arguments)
@@ -123,7 +128,7 @@ class Machine:
             row = [*before, *about, *(found.get(name) for name in self.columns), outcome.evaluations]
             self.writer.writerow(["" if entry is None else entry for entry in row])
             return
-        entry = dict(zip([*self.fields, "kind", "name", "status", "refusal"], [*before, *about]))
+        entry = dict(zip([*self.fields, "kind", "name", "status", "refusal"], [*map(_number, before), *about]))
         entry["meaning"] = refusals.meaning(outcome.status) if outcome.status != 0 else None
         entry["values"] = {name: _number(number) for name, number, _ in values}
         entry["units"] = {name: unit for name, _, unit in values}

@@ -1,5 +1,5 @@
-"""Pictures of isotherms, of the spinodal dome and of a search's convergence: the subcommand `prboard plot`.
-curves.py collects the numbers; only drawing them needs matplotlib."""
+"""Pictures of isotherms, of the spinodal dome, of a critical line and of a search's convergence: the subcommand
+`prboard plot`. curves.py collects the numbers; only drawing them needs matplotlib."""
 import argparse
 import io
 import json
@@ -10,7 +10,8 @@ from pathlib import Path
 from typing import Any, Callable, Iterable, List, Optional
 
 from .arguments import Usage, blend_arguments, blend_of, density_search_arguments, real
-from .curves import SAME_DENSITY, Numbers, convergence, dome, isotherms
+from .curves import SAME_DENSITY, Numbers, convergence, critical_line, dome, isotherms
+from .lines import LINE_COMPONENTS, line_blend
 
 FORMATS = (".png", ".svg", ".pdf")
 
@@ -45,8 +46,12 @@ def _bar(pressures: Iterable[float]) -> List[float]:
 def _title(about: str, numbers: Numbers, conditions: str = "") -> str:
     parts = numbers["components"]
     names = [one["name"] if len(parts) == 1 else f"{one['name']} {one['fraction']:g}" for one in parts]
+    return _plain(f"{about}: {', '.join(names)}{conditions}")
+
+
+def _plain(text: str) -> str:
     # a dollar sign would begin a formula
-    return textwrap.fill(f"{about}: {', '.join(names)}{conditions}".replace("$", "\\$"), 75)
+    return textwrap.fill(text.replace("$", "\\$"), 75)
 
 
 def _caption(figure: Any, sentences: Iterable[str]) -> None:
@@ -163,6 +168,42 @@ def draw_dome(figure: Any, numbers: Numbers) -> None:
     _caption(figure, sentences + numbers["notes"])
 
 
+def draw_critical_line(figure: Any, numbers: Numbers) -> None:
+    left, right = figure.subplots(1, 2)
+    points, first = numbers["points"], numbers["components"][0]["name"]
+    names = [one["name"] for one in numbers["components"]]
+    known = [point for point in points if point["pressure"] is not None]
+    left.plot(
+        [point["temperature"] for point in known], _bar(point["pressure"] for point in known),
+        color=BLUE, marker="o", markersize=3.0, linewidth=1.4, label="critical line (kind 8)",
+    )
+    right.plot(
+        [point["fractions"][0] for point in points], [point["temperature"] for point in points],
+        color=BLUE, marker="o", markersize=3.0, linewidth=1.4,
+    )
+    for end, name, colour, fraction in zip(numbers["critical_points"], names, (VERMILION, ORANGE), (1.0, 0.0)):
+        star = {
+            "linestyle": "none", "marker": "*", "markersize": 12, "color": colour, "markeredgecolor": "white",
+            "markeredgewidth": 0.6, "zorder": 4.0,
+        }
+        label = _plain(f"{name} (kinds 5, 3)")
+        left.plot([end["temperature"]], [BAR * end["pressure"]], label=label, **star)
+        right.plot([fraction], [end["temperature"]], **star)
+    left.set_xlabel("temperature / K")
+    left.set_ylabel("pressure / bar")
+    left.margins(y=0.1)
+    right.set_xlabel(_plain(f"mole fraction of {first}"))
+    right.set_ylabel("temperature / K")
+    right.set_xlim(-0.03, 1.03)
+    figure.suptitle(_plain(f"Critical line: {', '.join(names)}"), fontsize=12.0)
+    right.legend(*left.get_legend_handles_labels(), loc="best", fontsize=8.0)
+    sentences = [
+        f"{len(points)} points at set temperatures; the pressure is the one at which kind 1 comes to the point's density "
+        "and kind 9 to the point."
+    ]
+    _caption(figure, sentences + numbers["notes"])
+
+
 def draw_convergence(figure: Any, numbers: Numbers) -> None:
     from matplotlib.ticker import MaxNLocator
 
@@ -203,7 +244,9 @@ def draw_convergence(figure: Any, numbers: Numbers) -> None:
     _caption(figure, sentences + numbers["notes"])
 
 
-DRAWINGS = {"isotherms": draw_isotherms, "dome": draw_dome, "convergence": draw_convergence}
+DRAWINGS = {
+    "isotherms": draw_isotherms, "dome": draw_dome, "critical-line": draw_critical_line, "convergence": draw_convergence
+}
 
 
 def picture(numbers: Numbers, ending: str) -> bytes:
@@ -263,19 +306,25 @@ def _dome(arguments: argparse.Namespace) -> Numbers:
     return dome(blend_of(arguments), arguments.lowest_temperature)
 
 
+def _critical_line(arguments: argparse.Namespace) -> Numbers:
+    return critical_line(line_blend(arguments), arguments.lowest_temperature, arguments.highest_temperature)
+
+
 def _convergence(arguments: argparse.Namespace) -> Numbers:
     phase = arguments.start if arguments.phase is None else arguments.phase
     return convergence(blend_of(arguments), arguments.temperature, arguments.pressure, phase)
 
 
 def add_parser(subparsers: Any) -> None:
-    """The subcommand `plot` with its three pictures."""
-    what = "pictures of isotherms, of the spinodal dome, of a search's convergence"
+    """The subcommand `plot` with its four pictures."""
+    what = "pictures of isotherms, of the spinodal dome, of a critical line, of a search's convergence"
     plots = subparsers.add_parser("plot", help=what, description=what).add_subparsers(metavar="PLOT", required=True)
 
-    def add(name: str, description: str, numbers: Callable[[argparse.Namespace], Numbers]) -> argparse.ArgumentParser:
+    def add(
+        name: str, description: str, numbers: Callable[[argparse.Namespace], Numbers], *fractions: str
+    ) -> argparse.ArgumentParser:
         parser: argparse.ArgumentParser = plots.add_parser(name, help=description, description=description)
-        blend_arguments(parser)
+        blend_arguments(parser, *fractions)
         parser.add_argument(
             "-o", "--output", metavar="FILE", help=f"picture to write: png, svg or pdf by its ending ({name}.png)"
         )
@@ -291,6 +340,14 @@ def add_parser(subparsers: Any) -> None:
     parser = add("dome", "both spinodal densities over temperature, the critical point (kinds 4 to 7)", _dome)
     parser.add_argument(
         "--lowest-temperature", type=real, metavar="K", help="where the dome begins, in K (half of the critical one)"
+    )
+    what = "critical line of two components: pressure over temperature, temperature over composition (kind 8)"
+    parser = add("critical-line", what, _critical_line, LINE_COMPONENTS)
+    parser.add_argument(
+        "--lowest-temperature", type=real, metavar="K", help="where the line begins, in K (the lower critical one)"
+    )
+    parser.add_argument(
+        "--highest-temperature", type=real, metavar="K", help="where the line ends, in K (the higher critical one)"
     )
     parser = add("convergence", "a density search as looks at the board show it (kind 1)", _convergence)
     density_search_arguments(parser)

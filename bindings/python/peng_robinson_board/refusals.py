@@ -36,10 +36,11 @@ class Refusal(IntEnum):
 # number: what it means, what to do
 _TEXTS = {
     Refusal.QUEUE: ("the queue is above 3", "name a queue from 0 to 3"),
-    Refusal.KIND: ("the kind is not 1 to 7", "name a kind from 1 to 7"),
+    Refusal.KIND: ("the kind is not 1 to 9", "name a kind from 1 to 9"),
     Refusal.COMPONENTS: (
-        "the number of components is not 1 to 8, or not 2 in kind 7, the critical point of a blend",
-        "give 1 to 8 components, and for a critical point one (kind 5) or a blend of two (kind 7)",
+        "the number of components is not 1 to 8, or not 2 in kinds 7 to 9, critical points of two components",
+        "give 1 to 8 components, for a critical point one (kind 5) or a blend of two (kind 7), and for a critical line "
+        "two (kinds 8 and 9)",
     ),
     Refusal.QUEUE_FULL: (
         "the queue holds eight jobs",
@@ -88,12 +89,14 @@ _TEXTS = {
     ),
     Refusal.NOT_CONVERGED: (
         "the search did not converge within its limit",
-        "begin the search elsewhere; above the critical temperature there are no spinodals to find, and the critical "
-        "point of a blend (kind 7) needs both fractions above 0",
+        "begin the search elsewhere; above the critical temperature there are no spinodals to find, the critical "
+        "point of a blend (kind 7) needs both fractions above 0, and a critical line (kinds 8 and 9) has points at some "
+        "temperatures and pressures only",
     ),
     Refusal.ITERATION_FAILED: (
         "the iteration failed",
-        "start from another density or temperature; the phase may not exist at these conditions",
+        "start from another density or temperature; the phase may not exist at these conditions, and two components of "
+        "the same coefficients have no critical line (kinds 8 and 9)",
     ),
     Refusal.BOTH_PHASES_FAILED: (
         "neither the vapour nor the liquid search found a density",
@@ -109,8 +112,8 @@ _TEXTS = {
     ),
     Refusal.NOT_FINITE: (
         "a number that an evaluation yields, or a temperature or density after a step, is not finite",
-        "check the size of coefficients, pressure and start; the critical point of a blend (kind 7) needs both "
-        "fractions above 0",
+        "check the size of coefficients, temperature, pressure and start; critical points of two components (kinds 7 "
+        "to 9) need both fractions above 0, and a start above 0 where one is given",
     ),
 }
 

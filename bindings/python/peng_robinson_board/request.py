@@ -97,10 +97,34 @@ class Request:
         return cls._critical(Kind.BLEND_CRITICAL_POINT, blend, temperature, start)
 
     @classmethod
-    def _critical(cls, kind: Kind, blend: Blend, temperature: Optional[float], start: Optional[float]) -> "Request":
+    def critical_point_at_temperature(
+        cls, blend: Blend, temperature: float, start: Optional[float] = None
+    ) -> "Request":
+        """Kind 8: the critical point of two components at K. The search begins at the blend's fractions and may start
+        from mol/m^3 (+0 is none given)."""
+        return cls._critical(Kind.CRITICAL_POINT_AT_TEMPERATURE, blend, temperature, start)
+
+    @classmethod
+    def critical_point_at_pressure(
+        cls, blend: Blend, pressure: float, temperature: Optional[float] = None, start: Optional[float] = None
+    ) -> "Request":
+        """Kind 9: the critical point of two components at Pa. The search begins at the blend's fractions and may start
+        from K and mol/m^3 (+0 is none given; without a temperature it is 300 K)."""
+        reduced = PRESSURE.from_si(pressure)
+        return cls._critical(Kind.CRITICAL_POINT_AT_PRESSURE, blend, temperature, start, reduced)
+
+    @classmethod
+    def _critical(
+        cls,
+        kind: Kind,
+        blend: Blend,
+        temperature: Optional[float],
+        start: Optional[float],
+        reduced_pressure: float = 0.0,
+    ) -> "Request":
         # +0 is how the block says that none is given
         density = 0.0 if start is None else DENSITY.from_si(start)
-        return cls.new(kind, blend, 0, 0.0 if temperature is None else temperature, 0.0, density)
+        return cls.new(kind, blend, 0, 0.0 if temperature is None else temperature, reduced_pressure, density)
 
     @classmethod
     def from_bytes(cls, data: bytes) -> "Request":

@@ -25,6 +25,7 @@ class Quantity:
         return value / self.si_per_reduced
 
 
+FRACTION = Quantity("1", "1", 1.0)
 TEMPERATURE = Quantity("K", "K", 1.0)
 DENSITY = Quantity("mol/m^3", "1/angstrom^3", CUBIC_ANGSTROMS / AVOGADRO)
 # the product in floats is not the exact 13806490

@@ -72,6 +72,15 @@ CASES = [
     Case("7 0 4078BA68707F3DA0 3F643FA92CC972CF 0000000000000000 5", 7, *LPG, 2**64 - 1, 0.0, NAN),
     Case("7 0 407411501C89CE67 3F7253400BAEFB92 0000000000000000 5", 7, *METHANE_PROPANE),
     Case("7 0 40771D213CEC8CA7 3F662B76C42F98D7 0000000000000000 5", 7, *ALIKE),
+    Case("8 0 3F54BFE6B8B66F4A 3F52F11B29E6C7E2 0000000000000000 4", 8, *LPG, 0, 400.0),
+    Case("8 0 3F625D3E23B78C72 3F39479952F04DD5 0000000000000000 7", 8, *LPG, 0, 380.0, 0.0, 0.002),
+    Case("8 0 3F54BFE6B8B66F4A 3F52F11B29E6C7E2 0000000000000000 4", 8, *LPG, 2**64 - 1, 400.0, NAN),
+    Case("8 0 3F6A93F2FA68A650 3F605FE9909EE0A4 0000000000000000 7", 8, *METHANE_PROPANE, 0, 300.0),
+    Case("9 0 4079FB6B082ED6DA 3F3F2011DB424AE5 3F5CBC969F774ACB 7", 9, *LPG, 0, 400.0, 0.29),
+    Case("9 0 4079FB6B082ED6DC 3F3F2011DB424AF7 3F5CBC969F774AD4 86", 9, *LPG, 0, 0.0, 0.29),
+    Case("9 0 407890D30C1F185A 3F5A6775A1EF9CF9 3F4D1D0944E2508B 8", 9, *LPG, 0, 380.0, 0.31, 0.002),
+    Case("9 0 4079FB6B082ED6DA 3F3F2011DB424AE5 3F5CBC969F774ACB 7", 9, *LPG, 2**64 - 1, 400.0, 0.29),
+    Case("9 0 40757EE83084FAC9 3F532DDD18BC0BB3 3F643A42E4617036 5", 9, *METHANE_PROPANE, 0, 0.0, 0.5),
     # refused by the data
     Case(f"1 12 {NONE} 0", 1, ((PROPANE[0], -4e6, 0.15),), (1.0,), (), 1, 300.0, 0.05),
     Case(f"2 13 {NONE} 0", 2, (PROPANE, BUTANE), (0.6, 0.4), (INF,), 0, 300.0, 0.05),
@@ -82,6 +91,15 @@ CASES = [
     Case(f"7 14 {NONE} 0", 7, (PROPANE, BUTANE), (1.4, -0.4), (0.003,)),
     Case(f"7 17 {NONE} 0", 7, (PROPANE, BUTANE), (60.0, 40.0), (0.003,)),
     Case(f"7 15 {NONE} 0", 7, *LPG, 0, -0.0, 0.0, 0.002),
+    Case(f"8 14 {NONE} 0", 8, (PROPANE, BUTANE), (1.4, -0.4), (0.003,), 0, 400.0),
+    Case(f"8 17 {NONE} 0", 8, (PROPANE, BUTANE), (60.0, 40.0), (0.003,), 0, 400.0),
+    Case(f"8 15 {NONE} 0", 8, *LPG),
+    Case(f"8 15 {NONE} 0", 8, *LPG, 0, 400.0, 0.0, INF),
+    Case(f"9 14 {NONE} 0", 9, (PROPANE, BUTANE), (1.4, -0.4), (0.003,), 0, 400.0, 0.29),
+    Case(f"9 17 {NONE} 0", 9, (PROPANE, BUTANE), (60.0, 40.0), (0.003,), 0, 400.0, 0.29),
+    Case(f"9 15 {NONE} 0", 9, *LPG, 0, -0.0, 0.29),
+    Case(f"9 15 {NONE} 0", 9, *LPG, 0, 400.0, NAN),
+    Case(f"9 15 {NONE} 0", 9, *LPG, 0, 400.0, 0.29, -INF),
     # refused by the equation
     Case(f"3 21 {NONE} 0", 3, *PURE, 0, 300.0),
     Case(f"1 21 {NONE} 0", 1, *PURE, 2, 300.0, 0.05, -1e-3),
@@ -93,6 +111,15 @@ CASES = [
     Case(f"7 27 {NONE} 1", 7, *WITHOUT_BUTANE, 0, 350.0),
     # an interaction of 2 makes the blend's a 0
     Case(f"7 23 {NONE} 1", 7, *ALIKE[:2], (2.0,), 0, 300.0),
+    Case(f"8 22 {NONE} 200", 8, *LPG, 0, 500.0),
+    Case(f"8 23 {NONE} 1", 8, *ALIKE, 0, 5000.0),
+    Case(f"8 27 {NONE} 1", 8, *WITHOUT_BUTANE, 0, 400.0),
+    # -0 is a start
+    Case(f"8 27 {NONE} 1", 8, *LPG, 0, 390.0, 0.0, -0.0),
+    Case(f"9 22 {NONE} 200", 9, *LPG, 0, 400.0, 1.0),
+    Case(f"9 23 {NONE} 3", 9, *ALIKE, 0, 5000.0, 0.3),
+    Case(f"9 27 {NONE} 1", 9, *WITHOUT_BUTANE, 0, 400.0, 0.29),
+    Case(f"9 27 {NONE} 1", 9, *LPG, 0, 400.0, 1e308),
     Case(f"2 24 {NONE} 64", 2, *PURE, 0, 300.0, -100.0),
 ]
 
@@ -109,6 +136,19 @@ TRACE = [
     "3F7B5EDAFF5A3D2A",
     "3F7B5EDAFF5A36A6",
 ]
+# of the first cases of kinds 8 and 9 the sum of the partial densities
+LINE_TRACES = {
+    8: ["3F6538AC4222BD89", "3F63FCF8604ECDDE", "3F63D8AEEBA29C8E", "3F63D880F199489C"],
+    9: [
+        "3F6538AC4222BD89",
+        "3F64A39FC0191DA4",
+        "3F63FD6A6C400958",
+        "3F634458574FF733",
+        "3F627353AB18A142",
+        "3F624217AEEE6B77",
+        "3F62424D8546F99A",
+    ],
+}
 
 if __name__ == "__main__":
     sys.stdout.buffer.write(b"".join(case.request() for case in CASES))

@@ -6,10 +6,10 @@ from typing import List
 from peng_robinson_board import Board, Look, Refused, Request, Ticket, answer
 from peng_robinson_board.record import bits
 
-from tests.oracle_cases import CASES, TRACE
+from tests.oracle_cases import CASES, LINE_TRACES, TRACE
 
-# document 01, "Kinds and spans"; document 02, P3
-SPANS = {1: 3101, 2: 6204, 3: 30, 4: 30, 5: 150, 6: 250, 7: 150}
+# document 01, "Kinds and spans"; document 02, P3 and P5
+SPANS = {1: 3101, 2: 6204, 3: 30, 4: 30, 5: 150, 6: 250, 7: 150, 8: 200, 9: 200}
 
 
 def request_of(kind: int) -> Request:
@@ -60,10 +60,11 @@ class Schedule(unittest.TestCase):
         before = board.to_bytes()
         self.refused(1, board.submit, 4, request)
         self.refused(2, board.submit, 0, Request(0, 1, request.block))
-        self.refused(2, board.submit, 0, Request(8, 2, request.block))
+        self.refused(2, board.submit, 0, Request(10, 2, request.block))
         self.refused(3, board.submit, 0, Request(4, 9, request.block))
-        self.refused(3, board.submit, 0, Request(7, 1, request.block))
-        self.refused(3, board.submit, 0, Request(7, 3, request.block))
+        for kind in (7, 8, 9):
+            self.refused(3, board.submit, 0, Request(kind, 1, request.block))
+            self.refused(3, board.submit, 0, Request(kind, 3, request.block))
         self.refused(8, board.submit, 0, Request(4, 1, request.block[:-1]))
         self.refused(5, board.turn, 63)
         self.refused(1, board.look, 4)
@@ -95,14 +96,16 @@ class Schedule(unittest.TestCase):
 
 class Looks(unittest.TestCase):
     def test_look_shows_the_oracles_evaluations(self) -> None:
-        board = Board()
-        board.submit(0, Request.from_bytes(CASES[0].request()))
-        for turns in range(1, 15):
-            for _ in range(4 if turns > 1 else 1):
-                board.turn()
-            made = min(turns, len(TRACE))
-            look = board.look(0)
-            self.assertEqual((look.evaluations, bits(look.density)), (made, TRACE[made - 1]))
+        for kind, trace in {1: TRACE, **LINE_TRACES}.items():
+            board = Board()
+            board.submit(0, request_of(kind))
+            for turns in range(1, 15):
+                for _ in range(4 if turns > 1 else 1):
+                    board.turn()
+                made = min(turns, len(trace))
+                look = board.look(0)
+                with self.subTest(kind=kind, turns=turns):
+                    self.assertEqual((look.evaluations, bits(look.density)), (made, trace[made - 1]))
 
     def test_density_in_si(self) -> None:
         self.assertAlmostEqual(Look(1, 0.001).density_si, 1660.5390671738, delta=1e-9)

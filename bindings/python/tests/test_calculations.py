@@ -17,6 +17,8 @@ from peng_robinson_board import (
     blend_critical_point,
     components,
     critical_point,
+    critical_point_at_pressure,
+    critical_point_at_temperature,
     density,
     pressure_spinodal,
     spinodal,
@@ -43,7 +45,7 @@ def numbers_of(line: str) -> Tuple[float, ...]:
 
 class Oracle(unittest.TestCase):
     def test_every_kind_is_there(self) -> None:
-        self.assertEqual({case.kind for case in CASES if case.status == 0}, {1, 2, 3, 4, 5, 6, 7})
+        self.assertEqual({case.kind for case in CASES if case.status == 0}, set(range(1, 10)))
 
     def test_answers(self) -> None:
         for case in CASES:
@@ -94,6 +96,10 @@ class SI(unittest.TestCase):
             (Request.stability_spinodals(self.propane, 300.0), 6, 0, 300.0, 0.0, 0.0),
             (Request.blend_critical_point(self.blend), 7, 0, 0.0, 0.0, 0.0),
             (Request.blend_critical_point(self.blend, 350.0, start), 7, 0, 350.0, 0.0, 0.006),
+            (Request.critical_point_at_temperature(self.blend, 400.0), 8, 0, 400.0, 0.0, 0.0),
+            (Request.critical_point_at_temperature(self.blend, 400.0, start), 8, 0, 400.0, 0.0, 0.006),
+            (Request.critical_point_at_pressure(self.blend, pressure), 9, 0, 0.0, 0.05, 0.0),
+            (Request.critical_point_at_pressure(self.blend, pressure, 400.0, start), 9, 0, 400.0, 0.05, 0.006),
         ):
             with self.subTest(kind=kind, choice=choice):
                 self.assertEqual((request.kind, request.n), (kind, 1 if kind in (5, 6) else 2))
@@ -130,6 +136,21 @@ class SI(unittest.TestCase):
         self.assertEqual(critical.temperature, numbers_of(line)[0])
         self.near(critical.density, numbers_of(line)[1], MOLES)
         self.assertEqual((critical.evaluations, critical.record.line()), (int(line.split()[-1]), line))
+        line = self.expected(8, *LPG, 0, 400.0)
+        point = critical_point_at_temperature(self.blend, 400.0)
+        self.assertEqual((point.temperature, point.pressure), (400.0, None))
+        for found, number in zip(point.partial_densities, numbers_of(line)):
+            self.near(found, number, MOLES)
+        self.assertEqual((point.evaluations, point.record.line()), (int(line.split()[-1]), line))
+        line = self.expected(9, *LPG, 0, 400.0, 0.29)
+        point = critical_point_at_pressure(self.blend, 0.29 * 13806490, 400.0)
+        self.assertEqual((point.temperature, point.pressure), (numbers_of(line)[0], 0.29 * 13806490))
+        for found, number in zip(point.partial_densities, numbers_of(line)[1:]):
+            self.near(found, number, MOLES)
+        self.assertEqual((point.evaluations, point.record.line()), (int(line.split()[-1]), line))
+        first, second = point.partial_densities
+        self.assertEqual(point.density, first + second)
+        self.assertEqual(point.fractions, (first / point.density, second / point.density))
         line = self.expected(6, *PURE, 0, 300.0)
         both = stability_spinodals(self.propane, 300.0)
         self.near(both.vapor_density, numbers_of(line)[0], MOLES)
@@ -161,9 +182,16 @@ class SI(unittest.TestCase):
                 lambda x: stability_spinodals(self.propane, x),
                 # 0 is none given
                 lambda x: blend_critical_point(self.blend, x or -0.0),
+                lambda x: critical_point_at_temperature(self.blend, x),
+                lambda x: critical_point_at_pressure(self.blend, 40e5, x or -0.0),
             ):
                 with self.assertRaises(Refused) as caught:
                     refused(number)
+                self.assertEqual(caught.exception.number, 15)
+        for number in (float("nan"), float("inf"), float("-inf")):
+            for pressure, start in ((number, None), (40e5, number)):
+                with self.assertRaises(Refused) as caught:
+                    critical_point_at_pressure(self.blend, pressure, 400.0, start)
                 self.assertEqual(caught.exception.number, 15)
 
     def test_other_phases(self) -> None:
@@ -235,6 +263,39 @@ class BlendCriticalPoints(unittest.TestCase):
                         off = self.conditions(blend, temperature, part * found.density)
                         self.assertGreater(max(map(abs, off)), Decimal("1e-4"))
 
+    def pressure(self, blend: Blend, temperature: float, density: float) -> Decimal:
+        """Less the derivative of the energy by volume, by a difference."""
+        volume, moles = 1 / Decimal(density), [Decimal(x) for x in blend.fractions]
+        step = volume * Decimal("1e-20")
+        before, after = (self.energy(blend, Decimal(temperature), volume + by, moles) for by in (-step, step))
+        return (before - after) / (2 * step) * Decimal(GAS_CONSTANT) * Decimal(temperature)
+
+    def test_conditions_hold_on_the_critical_line(self) -> None:
+        with decimal.localcontext() as context:
+            context.prec = 60
+            for names, interaction, temperatures, pressures in (
+                (("propane", "butane"), 0.003, (372.0, 400.0, 424.0), (38e5, 40e5, 43e5)),
+                (("methane", "propane"), 0.014, (200.0, 280.0, 360.0), (50e5, 80e5)),
+                (("R32", "R134a"), 0.0, (352.0, 372.0), (42e5, 55e5)),
+            ):
+                blend = Blend.of([components.find(name) for name in names], [0.5, 0.5], {names: interaction})
+                kay = sum(one.critical_temperature for one in blend.components) / 2
+                points = [critical_point_at_temperature(blend, temperature) for temperature in temperatures]
+                points += [critical_point_at_pressure(blend, pressure, kay) for pressure in pressures]
+                for point in points:
+                    with self.subTest(names=names, temperature=point.temperature, pressure=point.pressure):
+                        # the float fractions add up to 1 within rounding, which the conditions follow
+                        there = Blend(blend.components, point.fractions, blend.interactions)
+                        for condition in self.conditions(there, point.temperature, point.density):
+                            self.assertLess(abs(condition), Decimal("1e-9"))
+                        if point.pressure is not None:
+                            found = self.pressure(there, point.temperature, point.density)
+                            self.assertLess(abs(found / Decimal(point.pressure) - 1), Decimal("1e-9"))
+                        # kind 7 finds the same of a blend of this composition
+                        same = blend_critical_point(there, point.temperature)
+                        self.assertAlmostEqual(same.temperature / point.temperature, 1.0, delta=1e-9)
+                        self.assertAlmostEqual(same.density / point.density, 1.0, delta=1e-9)
+
     def test_between_the_components(self) -> None:
         propane, butane = components.find("propane"), components.find("butane")
         temperatures = [critical_point(propane).temperature]
@@ -262,10 +323,16 @@ class BlendCriticalPoints(unittest.TestCase):
     def test_two_components_and_no_others(self) -> None:
         parts = [Component(str(i), *PROPANE) for i in range(9)]
         for n in (1, 3, 8, 9):
-            with self.subTest(n=n), self.assertRaises(Refused) as caught:
-                blend_critical_point(Blend.of(parts[:n], [1.0 / n] * n))
-            self.assertEqual(caught.exception.number, 3)
-            self.assertIn("two", caught.exception.remedy)
+            blend = Blend.of(parts[:n], [1.0 / n] * n)
+            for refused in (
+                lambda blend: blend_critical_point(blend),
+                lambda blend: critical_point_at_temperature(blend, 400.0),
+                lambda blend: critical_point_at_pressure(blend, 40e5),
+            ):
+                with self.subTest(n=n), self.assertRaises(Refused) as caught:
+                    refused(blend)
+                self.assertEqual(caught.exception.number, 3)
+                self.assertIn("two", caught.exception.remedy)
 
 
 class Blends(unittest.TestCase):

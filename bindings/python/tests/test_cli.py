@@ -10,7 +10,7 @@ import unittest.mock
 from pathlib import Path
 from typing import Any, Dict, List
 
-from peng_robinson_board import Record, Refused, Request, answer, commands
+from peng_robinson_board import Kind, Record, Refused, Request, answer, commands
 
 from tests.oracle_cases import CASES
 from tests.support import PROJECT, Ran, run
@@ -18,6 +18,7 @@ from tests.support import PROJECT, Ran, run
 LPG = ["propane:369.83:4.248e6:0.1523=0.6", "butane:425.12:3.796e6:0.2002=0.4", "--kij", "propane,butane=0.003"]
 PURE = "propane:369.83:4.248e6:0.1523"
 PRESSURE = repr(0.05 * 13806490)
+LINE_PRESSURE = repr(0.29 * 13806490)
 
 # a command line, and the case of the oracle's that it asks for
 ASKED = [
@@ -28,11 +29,16 @@ ASKED = [
     (["critical", PURE], 11),
     (["spinodal", PURE, "--temperature", "300", "--stability"], 14),
     (["critical", *LPG], 17),
+    (["critical-line", *LPG, "--temperature", "400"], 22),
+    (["critical-line", *LPG, "--pressure", LINE_PRESSURE, "--from-temperature", "400"], 26),
+    (["critical-line", *LPG, "--pressure", LINE_PRESSURE, "--from-temperature", "0"], 27),
 ]
 NAMES = {1: ["density"], 2: ["density"], 4: ["pressure", "density"], 5: ["temperature", "density"]}
 NAMES.update({3: ["pressure", "density", "curvature"], 6: ["vapor_density", "liquid_density"], 7: NAMES[5]})
+NAMES[8] = ["partial_density_1", "partial_density_2"]
+NAMES[9] = ["temperature", *NAMES[8]]
 SI = {"density": 1e30 / 6.02214076e23, "pressure": 13806490.0, "temperature": 1.0}
-SI.update({"vapor_density": SI["density"], "liquid_density": SI["density"]})
+SI.update({name: SI["density"] for name in ("vapor_density", "liquid_density", *NAMES[8])})
 
 
 def floats(line: str) -> List[float]:
@@ -242,6 +248,235 @@ class CriticalPoints(unittest.TestCase):
                     self.assertNotIn("Traceback", ran.err)
 
 
+class CriticalLines(unittest.TestCase):
+    """`critical-line`, and `write critical-line`."""
+
+    PAIR = ["propane", "butane"]
+
+    def test_a_point_at_a_temperature(self) -> None:
+        words = ["critical-line", *self.PAIR, "--temperature", "400"]
+        ran = run(*words)
+        self.assertEqual((ran.status, ran.err), (0, ""))
+        (found,) = objects(run(*words, "--json"))
+        values = found["values"]
+        self.assertEqual((found["component_1"], found["component_2"]), ("propane", "butane"))
+        self.assertEqual((found["at_temperature"], found["at_pressure"]), (400.0, None))
+        self.assertAlmostEqual(values["density"], values["partial_density_1"] + values["partial_density_2"], delta=1e-9)
+        self.assertAlmostEqual(values["fraction_1"], values["partial_density_1"] / values["density"], delta=1e-12)
+        self.assertAlmostEqual(values["fraction_1"] + values["fraction_2"], 1.0, delta=1e-12)
+        lines = dict(line.split("  ", 1) for line in ran.text.splitlines())
+        lines = {name: said.strip() for name, said in lines.items()}
+        self.assertEqual(lines["components"], "propane, butane")
+        self.assertEqual(lines["at temperature"], "400 K")
+        self.assertEqual(lines["search from"], "propane 0.5, butane 0.5")
+        self.assertEqual(lines["fraction of propane"], f"{values['fraction_1']:.10g}")
+        self.assertEqual(lines["density"], f"{values['density']:.10g} mol/m^3")
+        self.assertEqual(lines["pressure"], f"{values['pressure']:.10g} Pa")
+        self.assertIn("kind 8 (critical point at a temperature)", lines["answered by"])
+
+    def test_its_pressure(self) -> None:
+        """At it kind 1 comes to the density, and kind 9 to the point."""
+        for temperature in ("371", "400", "424"):
+            (found,) = objects(run("critical-line", *self.PAIR, "--temperature", temperature, "--json"))
+            values = found["values"]
+            blend = [f"propane={values['fraction_1']!r}", f"butane={values['fraction_2']!r}"]
+            at, start = ["--pressure", repr(values["pressure"])], ["--start", repr(values["density"])]
+            (there,) = objects(run("density", *blend, "--temperature", temperature, *at, *start, "--json"))
+            self.assertAlmostEqual(there["values"]["density"] / values["density"], 1.0, delta=1e-6)
+            (there,) = objects(run("critical-line", *blend, *at, *start, "--from-temperature", temperature, "--json"))
+            self.assertAlmostEqual(there["values"]["temperature"], float(temperature), delta=1e-6)
+
+    def test_a_point_without_a_pressure(self) -> None:
+        words = ["critical-line", *self.PAIR, "--kij", "propane,butane=0.3", "--start", "8000", "--temperature"]
+        ran = run(*words, "300")
+        (found,) = objects(run(*words, "300", "--json"))
+        self.assertEqual((ran.status, found["status"]), (0, 0))
+        self.assertNotIn("pressure", found["values"])
+        self.assertIn("none found above 0", ran.text)
+        self.assertNotIn("kinds 1 and 9", ran.text)
+        self.assertNotIn("pressure", run(*words, "300", "--bits").text)
+        # of a table the first has none
+        rows = run(*words, "300:400:100").text.splitlines()[-2:]
+        self.assertEqual([len(row.split()) for row in rows], [6, 6])
+        self.assertEqual(rows[0].split()[1], "-")
+
+    def test_a_point_at_a_pressure(self) -> None:
+        words = ["critical-line", *self.PAIR, "--pressure", "40e5"]
+        ran = run(*words)
+        self.assertEqual((ran.status, ran.err), (0, ""))
+        # between the two critical temperatures filed
+        self.assertIn("from temperature            397.5075 K\n", ran.text)
+        self.assertIn("at pressure                 4000000 Pa\n", ran.text)
+        self.assertIn("kind 9 (critical point at a pressure)", ran.text)
+        (found,) = objects(run(*words, "--json"))
+        self.assertEqual((found["at_temperature"], found["at_pressure"]), (None, 4e6))
+        (at_temperature,) = objects(
+            run("critical-line", *self.PAIR, "--temperature", repr(found["values"]["temperature"]), "--json")
+        )
+        self.assertAlmostEqual(at_temperature["values"]["pressure"] / 4e6, 1.0, delta=1e-8)
+        for name in ("fraction_1", "fraction_2", "density", "partial_density_1", "partial_density_2"):
+            self.assertAlmostEqual(at_temperature["values"][name] / found["values"][name], 1.0, delta=1e-8)
+
+    def test_starts(self) -> None:
+        half = run("critical-line", *self.PAIR, "--temperature", "400")
+        self.assertEqual(run("critical-line", "propane=0.5", "R600=0.5", "--temperature", "400"), half)
+        ran = run("critical-line", "propane=0.9", "butane=0.1", "--temperature", "400", "--start", "4000")
+        self.assertIn("propane 0.9, butane 0.1\n", ran.text)
+        self.assertIn("from density                4000 mol/m^3\n", ran.text)
+        self.assertEqual(run("critical-line", *self.PAIR, "--temperature", "400", "--start", "0"), half)
+        cold = run("critical-line", *self.PAIR, "--pressure", "42e5", "--from-temperature", "0")
+        self.assertIn("from temperature            300 K\n", cold.text)
+        # two points at one pressure, one on each side of the line's highest
+        temperatures = []
+        for blend in (["propane=0.95", "butane=0.05"], ["propane=0.4", "butane=0.6"]):
+            (found,) = objects(run("critical-line", *blend, "--pressure", "43e5", "--json"))
+            temperatures.append(found["values"]["temperature"])
+        self.assertGreater(temperatures[1] - temperatures[0], 10.0)
+
+    def test_order_of_the_components(self) -> None:
+        for at in (["--temperature", "400"], ["--pressure", "40e5"]):
+            (one,) = objects(run("critical-line", *self.PAIR, *at, "--json"))
+            (other,) = objects(run("critical-line", *reversed(self.PAIR), *at, "--json"))
+            self.assertAlmostEqual(one["values"]["fraction_1"], other["values"]["fraction_2"], delta=1e-9)
+            self.assertAlmostEqual(one["values"]["density"] / other["values"]["density"], 1.0, delta=1e-9)
+
+    def test_tables(self) -> None:
+        for at, found, count in (
+            (["--temperature", "375:420:5"], "pressure", 10),
+            (["--temperature", "420:375:-5"], "pressure", 10),
+            (["--pressure", "38e5:43e5:1e5"], "temperature", 6),
+            (["--temperature", "380:380.3:0.1"], "pressure", 4),
+            (["--temperature", "400:400:1"], "pressure", 1),
+        ):
+            with self.subTest(at=at):
+                words = ["critical-line", *self.PAIR, *at]
+                ran, points = run(*words), objects(run(*words, "--json"))
+                self.assertEqual((ran.status, ran.err, len(points)), (0, "", count))
+                if count == 1:
+                    continue
+                head, _, rows = ran.text.partition("\n\n")
+                self.assertIn("components", head)
+                header, *rows = rows.splitlines()
+                self.assertEqual(len(rows), count)
+                for row, point in zip(rows, points):
+                    values = point["values"]
+                    at_point = point["at_temperature"] or point["at_pressure"]
+                    numbers = [at_point, *(values[name] for name in (found, "fraction_1", "fraction_2", "density"))]
+                    self.assertEqual(row.split(), [*(f"{x:.10g}" for x in numbers), str(point["evaluations"])])
+                    # columns are under their titles
+                    self.assertEqual(row[header.index("density")], row.split()[4][0])
+                table = list(csv.DictReader(io.StringIO(run(*words, "--csv").text)))
+                self.assertEqual([float(row["density [mol/m^3]"]) for row in table], [p["values"]["density"] for p in points])
+                self.assertEqual({row["component_2"] for row in table}, {"butane"})
+
+    def test_tables_in_bits(self) -> None:
+        ran = run("critical-line", *LPG, "--temperature", "380:400:20", "--bits")
+        self.assertEqual(ran.text.splitlines()[-1].split(), ["400", *CASES[22].line.split()[2:4], "4"])
+
+    def test_tables_with_refusals(self) -> None:
+        ran = run("critical-line", *self.PAIR, "--temperature", "360:380:10")
+        self.assertEqual(ran.status, 2)
+        rows = ran.text.splitlines()[-3:]
+        self.assertEqual(rows[0].split(), ["360", "refused", "by", "22"])
+        self.assertEqual([row.split()[0] for row in rows], ["360", "370", "380"])
+        told = ran.err.splitlines()
+        self.assertIn("refused: 1 of the 3 points", told[0])
+        self.assertIn("refused by 22 (NOT_CONVERGED)", told[1])
+        self.assertIn("propane 369.89 K", told[3])
+        points = objects(run("critical-line", *self.PAIR, "--temperature", "360:380:10", "--json"))
+        self.assertEqual([(p["at_temperature"], p["status"]) for p in points], [(360.0, 22), (370.0, 0), (380.0, 0)])
+
+    def test_written_requests(self) -> None:
+        words = [*self.PAIR, "--temperature", "380:400:10"]
+        ran = run("write", "critical-line", *words)
+        self.assertEqual((ran.status, len(ran.out)), (0, 3 * 642))
+        found = [answer(Request.from_bytes(ran.out[at : at + 642])) for at in range(0, len(ran.out), 642)]
+        self.assertEqual({record.kind for record in found}, {Kind.CRITICAL_POINT_AT_TEMPERATURE})
+        bits = [list(point["values"].values()) for point in objects(run("critical-line", *words, "--json", "--bits"))]
+        self.assertEqual([list(record.bits[:2]) for record in found], bits)
+        ran = run("write", "critical-line", *self.PAIR, "--pressure", "40e5")
+        self.assertEqual(answer(Request.from_bytes(ran.out)).kind, Kind.CRITICAL_POINT_AT_PRESSURE)
+
+    def test_refused(self) -> None:
+        for number, told, words in (
+            (3, "two (kinds 8 and 9)", ["propane", "--temperature", "400"]),
+            (3, "two (kinds 8 and 9)", ["propane=1", "--pressure", "40e5"]),
+            (3, "two (kinds 8 and 9)", ["propane", "butane", "ethane", "--temperature", "400"]),
+            (12, "critical temperature in K", ["x:-1:4e6:0.1", "butane", "--pressure", "40e5"]),
+            (12, "critical temperature in K", ["x:nan:4e6:0.1", "butane", "--temperature", "400"]),
+            (13, "finite", [*self.PAIR, "--kij", "propane,butane=nan", "--temperature", "400"]),
+            (14, "minus sign", ["propane=1.4", "butane=-0.4", "--pressure", "40e5"]),
+            (17, "divided by 100", ["propane=60", "butane=40", "--temperature", "400"]),
+            (15, "above 0 K", [*self.PAIR, "--temperature", "0"]),
+            (15, "above 0 K", [*self.PAIR, "--temperature", "-400"]),
+            (15, "above 0 K", [*self.PAIR, "--temperature", "nan"]),
+            (15, "finite", [*self.PAIR, "--pressure", "inf"]),
+            (15, "finite", [*self.PAIR, "--pressure", "40e5", "--start", "nan"]),
+            (15, "above 0 K", [*self.PAIR, "--pressure", "40e5", "--from-temperature", "-1"]),
+        ):
+            for command in (["critical-line"], ["write", "critical-line"]):
+                with self.subTest(command=command, words=words):
+                    ran = run(*command, *words)
+                    self.assertEqual((ran.status, ran.out), (2, b""))
+                    self.assertEqual(len(ran.err.splitlines()), 2)
+                    self.assertIn(f"refused by {number} ", ran.err)
+                    self.assertIn(told, ran.err)
+
+    def test_refused_by_the_equation(self) -> None:
+        for number, told, words in (
+            (22, "some temperatures and pressures only", [*self.PAIR, "--temperature", "500"]),
+            (22, "butane 425.125 K, 3796000 Pa", [*self.PAIR, "--pressure", "60e5"]),
+            (23, "same coefficients", ["a:369.83:4.248e6:0.1523", "b:369.83:4.248e6:0.1523", "--temperature", "5000"]),
+            (27, "both fractions above 0", ["propane=1", "butane=0", "--temperature", "400"]),
+            (27, "both fractions above 0", ["propane=0", "butane=1", "--pressure", "40e5"]),
+            (27, "start above 0", [*self.PAIR, "--temperature", "400", "--start", "-1"]),
+        ):
+            with self.subTest(words=words):
+                ran = run("critical-line", *words)
+                self.assertEqual((ran.status, ran.out), (2, b""))
+                self.assertIn(f"refused by {number} ", ran.err)
+                self.assertIn(told, ran.err)
+                (found,) = objects(run("critical-line", *words, "--json"))
+                self.assertEqual((found["status"], found["values"]), (number, {}))
+        # JSON has no NaN and no infinities
+        for at in (["--temperature", "nan"], ["--pressure", "-inf"]):
+            ran = run("critical-line", *self.PAIR, *at, "--json")
+            (found,) = objects(ran)
+            self.assertEqual((ran.status, found["status"]), (2, 15))
+            self.assertEqual((found["at_temperature"], found["at_pressure"]), (None, None))
+
+    def test_bad_usage(self) -> None:
+        at = ["--temperature", "400"]
+        for told, words in (
+            ("one of the arguments --temperature --pressure is required", self.PAIR),
+            ("not allowed with", [*self.PAIR, *at, "--pressure", "40e5"]),
+            ("goes with --pressure", [*self.PAIR, *at, "--from-temperature", "300"]),
+            ("'butane' has no fraction", ["propane=0.5", "butane", *at]),
+            ("'propane' has no fraction", ["propane", "butane=0.5", *at]),
+            ("propane is named twice", ["propane", "R290", *at]),
+            ("close to it: propane", ["propan", "butane", *at]),
+            ("does not name two components", [*self.PAIR, "--kij", "propane,ethane=0.01", *at]),
+            ("'warm' is no number", [*self.PAIR, "--temperature", "warm"]),
+            ("'40bar' is no number", [*self.PAIR, "--pressure", "40bar"]),
+            ("neither a number nor FIRST:LAST:STEP", [*self.PAIR, "--temperature", "370:420"]),
+            ("neither a number nor FIRST:LAST:STEP", [*self.PAIR, "--temperature", "370:420:5:1"]),
+            ("'' is no number", [*self.PAIR, "--temperature", "370::5"]),
+            ("its step leads to its last", [*self.PAIR, "--temperature", "370:420:0"]),
+            ("its step leads to its last", [*self.PAIR, "--temperature", "370:420:-5"]),
+            ("its step leads to its last", [*self.PAIR, "--temperature", "370:nan:5"]),
+            ("its step leads to its last", [*self.PAIR, "--pressure", "0:inf:1e5"]),
+            ("its step leads to its last", [*self.PAIR, "--pressure", "-1e308:1e308:1e-300"]),
+            ("more than 10000 numbers", [*self.PAIR, "--pressure", "0:1e9:1"]),
+            ("COMPONENT", at),
+        ):
+            for command in (["critical-line"], ["write", "critical-line"]):
+                with self.subTest(command=command, words=words):
+                    ran = run(*command, *words)
+                    self.assertEqual((ran.status, ran.out), (1, b""))
+                    self.assertIn(told, ran.err)
+                    self.assertNotIn("Traceback", ran.err)
+
+
 class Refusals(unittest.TestCase):
     def refused(self, number: int, *words: str) -> Ran:
         ran = run(*words)
@@ -399,11 +634,11 @@ class Files(unittest.TestCase):
         self.assertIn("short", ran.err)
 
     def test_answer_in_other_forms(self) -> None:
-        data = b"".join(case.request() for case in CASES) + b"\x09\x01" + bytes(640)
+        data = b"".join(case.request() for case in CASES) + b"\x0a\x01" + bytes(640)
         first, second = self.file("first", data), self.file("second", CASES[0].request() + bytes(3))
         ran = run("answer", first, second)
         self.assertEqual((ran.status, len(ran.text.splitlines())), (2, len(CASES) + 2))
-        self.assertIn(f"{first}:{len(CASES) + 1}  kind 9", ran.text)
+        self.assertIn(f"{first}:{len(CASES) + 1}  kind 10", ran.text)
         self.assertIn("refused by 2: ", ran.text)
         self.assertIn("short: 3 bytes after 1 requests, a request has 642", ran.err)
         found = objects(run("answer", first, second, "--json", "--bits"))
@@ -471,6 +706,23 @@ class Files(unittest.TestCase):
         (row,) = csv.DictReader(io.StringIO(run("record", name, "--csv", "--reduced").text))
         self.assertEqual((row["temperature [K]"], row["density [1/angstrom^3]"]), ("395.65", "0.0025"))
 
+    def test_records_of_critical_lines(self) -> None:
+        for kind, title, values, shown in (
+            (8, "critical point at a temperature", (0.002, 0.001, 0.0), {}),
+            (9, "critical point at a pressure", (400.0, 0.002, 0.001), {"temperature": ["400", "K"]}),
+        ):
+            name = self.file("record", self.record(kind, 0, values, 5))
+            ran = run("record", name)
+            self.assertEqual((ran.status, ran.err), (0, ""))
+            lines = {line[:17].strip(): line[17:].split() for line in ran.text.splitlines()}
+            self.assertEqual(" ".join(lines["kind"]), f"{kind}, {title}")
+            shown.update({"partial density 1": ["3321.078134", "mol/m^3"], "partial density 2": ["1660.539067", "mol/m^3"]})
+            self.assertEqual({name: lines[name] for name in shown}, shown)
+            (found,) = objects(run("record", name, "--json", "--reduced"))
+            self.assertEqual(list(found["values"].items()), list(zip(NAMES[kind], values)))
+            (row,) = csv.DictReader(io.StringIO(run("record", name, "--csv", "--reduced").text))
+            self.assertEqual(row["partial_density_2 [1/angstrom^3]"], "0.001")
+
     def test_records_one_after_another(self) -> None:
         data = self.record(3, 0, (0.5, 0.001, -2.0), 7) + self.record(2, 17, (0.0, 0.0, 0.0), 0) + b"xyz"
         name = self.file("records", data)
@@ -497,12 +749,12 @@ class Files(unittest.TestCase):
     def test_records_of_numbers_not_known_here(self) -> None:
         nan = float("nan")
         zeros = (0.0, 0.0, 0.0)
-        records = [self.record(9, 0, (1.0, nan, -0.0), 1), self.record(1, 30, zeros, 0)]
+        records = [self.record(10, 0, (1.0, nan, -0.0), 1), self.record(1, 30, zeros, 0)]
         records.append(self.record(1, 0, (nan, 0.0, 0.0), 0))
         name = self.file("later", b"".join(records))
         ran = run("record", name)
         self.assertEqual(ran.status, 2)
-        self.assertIn("9, unknown kind", ran.text)
+        self.assertIn("10, unknown kind", ran.text)
         self.assertIn("3FF0000000000000", ran.text)
         self.assertIn("30, refused", ran.text)
         found = objects(run("record", name, "--json"))

@@ -19,8 +19,8 @@ from peng_robinson_board import (
 from tests.support import PROJECT
 
 HEADER = PROJECT / "include" / "peng_robinson_board.h"
-# document 01, "Kinds and spans"; document 02, P3
-SPANS = {1: 3101, 2: 6204, 3: 30, 4: 30, 5: 150, 6: 250, 7: 150}
+# document 01, "Kinds and spans"; document 02, P3 and P5
+SPANS = {1: 3101, 2: 6204, 3: 30, 4: 30, 5: 150, 6: 250, 7: 150, 8: 200, 9: 200}
 
 
 @unittest.skipUnless(HEADER.is_file(), f"no {HEADER}")
@@ -64,6 +64,8 @@ class Documents(unittest.TestCase):
             5: ["temperature", "density"],
             6: ["vapor_density", "liquid_density"],
             7: ["temperature", "density"],
+            8: ["partial_density_1", "partial_density_2"],
+            9: ["temperature", "partial_density_1", "partial_density_2"],
         }
         self.assertEqual(names, expected)
 
@@ -80,4 +82,4 @@ class Documents(unittest.TestCase):
         self.assertEqual((refused.number, refused.name), (30, "REFUSAL_30"))
         self.assertIn("30", str(refused))
         self.assertTrue(refused.meaning and refused.remedy)
-        self.assertEqual((kinds.describe(9), kinds.title(9)), (None, "unknown kind"))
+        self.assertEqual((kinds.describe(10), kinds.title(10)), (None, "unknown kind"))

@@ -33,6 +33,7 @@ ISOTHERMS = ["plot", "isotherms", "propane", "--temperatures", "280", "300", "32
 DOME = ["plot", "dome", "propane"]
 CONVERGENCE = ["plot", "convergence", "propane=0.6", "butane=0.4", "--temperature", "300", "--pressure", "5e5"]
 CONVERGENCE += ["--phase", "liquid"]
+CRITICAL_LINE = ["plot", "critical-line", "propane", "butane"]
 
 
 class PengRobinson:
@@ -244,6 +245,63 @@ class Dome(unittest.TestCase):
                 curves.dome(PROPANE, lowest)
 
 
+class CriticalLine(unittest.TestCase):
+    PAIR = board.Blend.of(BLEND.components, [0.5, 0.5], {("propane", "butane"): 0.003})
+
+    def check(self, blend, numbers):
+        """Pressures are the equation's, and kind 7 finds the same points of blends of their compositions."""
+        temperatures = [point["temperature"] for point in numbers["points"]]
+        self.assertEqual(temperatures, sorted(set(temperatures)))
+        for point in numbers["points"]:
+            with self.subTest(temperature=point["temperature"]):
+                self.assertAlmostEqual(sum(point["fractions"]), 1.0, delta=1e-12)
+                there = board.Blend(blend.components, tuple(point["fractions"]), blend.interactions)
+                pressure = PengRobinson(there, point["temperature"]).pressure(point["density"])
+                self.assertAlmostEqual(point["pressure"] / pressure, 1.0, delta=1e-9)
+                same = calculations.blend_critical_point(there, point["temperature"], point["density"])
+                self.assertAlmostEqual(same.temperature / point["temperature"], 1.0, delta=1e-9)
+                self.assertAlmostEqual(same.density / point["density"], 1.0, delta=1e-9)
+
+    def test_from_one_component_to_the_other(self):
+        numbers = curves.critical_line(self.PAIR)
+        self.check(self.PAIR, numbers)
+        self.assertEqual((len(numbers["points"]), numbers["notes"]), (59, []))
+        fractions = [point["fractions"][0] for point in numbers["points"]]
+        self.assertEqual(fractions, sorted(fractions, reverse=True))
+        for end, point, component in zip(numbers["critical_points"], (numbers["points"][0], numbers["points"][-1]), (0, 1)):
+            self.assertGreater(point["fractions"][component], 0.97)
+            self.assertAlmostEqual(point["pressure"] / end["pressure"], 1.0, delta=0.01)
+            self.assertAlmostEqual(point["density"] / end["density"], 1.0, delta=0.01)
+
+    def test_a_line_with_a_high_pressure_between(self):
+        blend = board.Blend.of([components.find("methane"), components.find("propane")], [0.5, 0.5])
+        numbers = curves.critical_line(blend)
+        self.check(blend, numbers)
+        highest = max(point["pressure"] for point in numbers["points"])
+        self.assertGreater(highest, 2.0 * max(end["pressure"] for end in numbers["critical_points"]))
+
+    def test_a_line_that_does_not_join_its_ends(self):
+        blend = board.Blend.of([components.find("hydrogen"), components.find("methane")], [0.5, 0.5])
+        numbers = curves.critical_line(blend)
+        self.check(blend, numbers)
+        self.assertLess(len(numbers["points"]), 59)
+        self.assertIn("temperatures are left out", numbers["notes"][0])
+        self.assertLess(max(point["fractions"][0] for point in numbers["points"]), 0.8)
+
+    def test_between_given_temperatures(self):
+        numbers = curves.critical_line(self.PAIR, 380.0, 400.0)
+        temperatures = [point["temperature"] for point in numbers["points"]]
+        self.assertTrue(380.0 < temperatures[0] and temperatures[-1] < 400.0 and len(temperatures) == 59)
+        self.assertLess(len(curves.critical_line(self.PAIR, None, 500.0)["points"]), 59)
+        with self.assertRaises(Usage):
+            curves.critical_line(self.PAIR, 500.0, 600.0)
+
+    def test_where_the_search_begins_changes_nothing(self):
+        fractions = curves.critical_line(self.PAIR)["points"][10]["fractions"]
+        other = board.Blend.of(BLEND.components, [0.8, 0.2], {("propane", "butane"): 0.003})
+        self.assertAlmostEqual(curves.critical_line(other)["points"][10]["fractions"][0], fractions[0], delta=1e-9)
+
+
 class Convergence(unittest.TestCase):
     # a short search, one that makes spinodal searches on its way, one from a start
     SEARCHES = [(300.0, 5e5, "liquid"), (390.0, 38e5, "liquid"), (300.0, 2e5, "vapor"), (300.0, 5e5, 4000.0)]
@@ -396,6 +454,11 @@ class BadInput(InFolder):
             ([*ISOTHERMS, "--highest-pressure", "-1e9"], "nothing to draw"),
             (CONVERGENCE[:-2], "--phase"),
             ([*CONVERGENCE[:-1], "solid"], "solid"),
+            (["plot", "critical-line", "propane=0.5", "butane"], "fraction"),
+            ([*CRITICAL_LINE, "--lowest-temperature", "400", "--highest-temperature", "390"], "not below"),
+            ([*CRITICAL_LINE, "--lowest-temperature", "500", "--highest-temperature", "600"], "nothing to draw"),
+            (["plot", "critical-line", "a:369.83:4.248e6:0.1523", "b:369.83:4.248e6:0.1523"], "not below"),
+            ([*CRITICAL_LINE, "-o", "line.jpg"], ".png, .svg, .pdf"),
         ):
             with self.subTest(words):
                 status, said, message = run(words)
@@ -422,6 +485,13 @@ class BadInput(InFolder):
             (["plot", "dome", "propane=0.9"], 17),
             ([*CONVERGENCE[:-3], "-5", "--phase", "vapor"], 21),
             ([*CONVERGENCE[:-2], "--start", "-5"], 21),
+            (["plot", "critical-line", "propane"], 3),
+            (["plot", "critical-line", "propane", "butane", "ethane"], 3),
+            (["plot", "critical-line", "x:-300:4e6:0.1", "butane"], 12),
+            ([*CRITICAL_LINE, "--kij", "propane,butane=nan"], 13),
+            (["plot", "critical-line", "propane=60", "butane=40"], 17),
+            ([*CRITICAL_LINE, "--lowest-temperature", "0"], 15),
+            ([*CRITICAL_LINE, "--highest-temperature", "nan"], 15),
         ):
             with self.subTest(words):
                 status, said, told = run(words)
@@ -443,7 +513,12 @@ class BadInput(InFolder):
 @unittest.skipIf(matplotlib is None, "no matplotlib here (Debian: python3-matplotlib, for /usr/bin/python3)")
 class Pictures(InFolder):
     def test_png(self):
-        for words, file in ((ISOTHERMS, "isotherms.png"), (DOME, "dome.png"), (CONVERGENCE, "convergence.png")):
+        for words, file in (
+            (ISOTHERMS, "isotherms.png"),
+            (DOME, "dome.png"),
+            (CONVERGENCE, "convergence.png"),
+            (CRITICAL_LINE, "critical-line.png"),
+        ):
             for given in ([], ["-o", file.replace(".", "-named.")]):
                 with self.subTest(words, given=given):
                     self.assertEqual(run([*words, *given]), (0, "", ""))
@@ -478,10 +553,21 @@ class Pictures(InFolder):
         self.assertEqual(run(["plot", "dome", *words[:2], "-o", "dome.svg"]), (0, "", ""))
         self.assertIn("critical point of the blend", Path("dome.svg").read_text())
 
+    def test_critical_line(self):
+        self.assertEqual(run([*CRITICAL_LINE, "-o", "line.svg"]), (0, "", ""))
+        drawn = Path("line.svg").read_text()
+        for text in ("Critical line: propane, butane", "mole fraction of propane", "pressure / bar", "59 points"):
+            with self.subTest(text):
+                self.assertIn(text, drawn)
+        words = ["plot", "critical-line", "hydrogen", "methane", "-o", "line.svg"]
+        self.assertIn("temperatures are left out", run(words)[1])
+
     def test_names_are_drawn_as_they_are(self):
         # dollar signs enclose a formula in matplotlib
         for name in ("$\\frac$", "$x$", "100 % <gas> & co", "x" * 300):
             with self.subTest(name):
+                line = ["plot", "critical-line", f"{name}:369.83:4.248e6:0.1523", "butane", "-o", "x.png"]
+                self.assertEqual(run(line), (0, "", ""))
                 self.assertEqual(run(["plot", "dome", f"{name}:369.83:4.248e6:0.1523", "-o", "x.png"]), (0, "", ""))
 
     def test_same_numbers_make_the_same_file(self):

@@ -46,7 +46,7 @@ class Replay(unittest.TestCase):
     def test_requests_and_records(self) -> None:
         """A request file submitted, and the record that the schedule and the oracle say, byte for byte."""
         request, records = self.folder / "request", self.folder / "records"
-        for kind, span in ((4, 30), (7, 150)):
+        for kind, span in ((4, 30), (7, 150), (8, 200), (9, 200)):
             case = next(case for case in CASES if case.kind == kind and case.status == 0)
             request.write_bytes(case.request())
             # in queue 2
@@ -97,7 +97,8 @@ class Replay(unittest.TestCase):
         block.write_bytes(CASES[0].block())
         lines = [f"submit 0 1 2 {block}", "turn", "look 0", "turn 63 2", "turn 64 60 # sixty", "", "look 0"]
         lines += ["submit 9 1 2 zeros", "submit 0x2 5 1 zeros", "submit 3 7 2 zeros", "submit 3 7 1 zeros"]
-        lines += ["submit 3 8 2 zeros", "turn 200 700", "turn 300 0", "look 2"]
+        lines += ["submit 3 8 2 zeros", "submit 3 9 2 zeros", "submit 3 9 3 zeros", "submit 3 10 2 zeros"]
+        lines += ["turn 200 700", "turn 300 0", "look 2"]
         lines += ["turn 257 3", "look 0", f"submit 0 1 2 {block}"]
         script = self.script(lines)
         words = [sys.executable, str(PROJECT / "tools" / "calls"), script]
