@@ -45,7 +45,11 @@ pub fn calls(mix: &Mix, percent: bool) -> Result<Vec<Call>, Refusal> {
         *block = in_percent(&vapor);
     }
     calls.push(unfit);
-    calls.push(submit(2, &mix.critical_point()?));
+    calls.extend([
+        submit(2, &mix.critical_point()?),
+        submit(2, &mix.critical_line_at_temperature()?),
+        submit(2, &mix.critical_line_at_pressure()?),
+    ]);
     // queue 0 holds eight with these, so the ninth is refused
     calls.extend((0..7).map(|i| submit(0, if i % 2 == 0 { &vapor } else { &liquid })));
     calls.push(submit(0, &liquid));

@@ -90,6 +90,16 @@ impl Mix {
         Request::critical_point(&self.blend, 0, None, None)
     }
 
+    /// The point of the critical line at 400 K: the same of both mixes, which say where its search begins.
+    pub fn critical_line_at_temperature(&self) -> Result<Request, Refusal> {
+        Request::critical_point_at_temperature(&self.blend, 400.0, None)
+    }
+
+    /// The point at 40 bar, from 400 K.
+    pub fn critical_line_at_pressure(&self) -> Result<Request, Refusal> {
+        Request::critical_point_at_pressure(&self.blend, bar(40.0), Some(400.0), None)
+    }
+
     /// The questions by name, the same for every mix.
     pub fn questions(&self) -> Result<Vec<(&'static str, Request)>, Refusal> {
         Ok(vec![
@@ -104,6 +114,8 @@ impl Mix {
                 self.critical_point_of_main_component()?,
             ),
             ("critical point, propane", self.critical_point_of_propane()?),
+            ("critical line, 400 K", self.critical_line_at_temperature()?),
+            ("critical line, 40 bar", self.critical_line_at_pressure()?),
         ])
     }
 }

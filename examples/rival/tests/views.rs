@@ -26,10 +26,15 @@ fn the_engine_is_told_apart() {
         (7, [5, 6]),
         (5, [5, 6]),
         (5, [5, 5]),
+        (8, [5, 5]),
+        (9, [8, 6]),
     ];
     assert_eq!(evaluations, expected);
     let told: Vec<bool> = moments.iter().map(|row| row.told_apart()).collect();
-    assert_eq!(told, [false, true, true, false, true, true, true, false]);
+    assert_eq!(
+        told,
+        [false, true, true, false, true, true, true, false, false, true]
+    );
 }
 
 #[test]
@@ -44,9 +49,9 @@ fn the_board_is_not_told_apart() {
     let (view, owned) = run(&winter);
     let (other_view, other_owned) = run(&catalogue);
     assert_eq!(first_difference(&view, &other_view), None);
-    // thirteen records and four looks: each differs
-    assert_eq!(owned.differing(&other_owned), (17, 17));
-    assert_eq!(owned.differing(&owned), (17, 0));
+    // fifteen records and four looks: each differs
+    assert_eq!(owned.differing(&other_owned), (19, 19));
+    assert_eq!(owned.differing(&owned), (19, 0));
 }
 
 /// The percentages are refused by 17, inside the sealed part alone.
@@ -58,7 +63,7 @@ fn unfit_data_are_refused_in_the_sealed_part() {
         .iter()
         .map(|(_, record)| record.sealed().status)
         .collect();
-    assert_eq!(statuses, [0, 0, 0, 0, 0, 0, 0, 17, 0, 0, 0, 0, 0]);
+    assert_eq!(statuses, [0, 0, 0, 0, 0, 0, 0, 17, 0, 0, 0, 0, 0, 0, 0]);
 }
 
 /// A job's record comes with the last turn of its span, counted in its queue's turns.
@@ -90,6 +95,8 @@ fn records_come_by_the_published_schedule() {
         (6, 4, 0, 210),
         (7, 4, 0, 240),
         (2, 7, 2, 330),
+        (3, 8, 2, 530),
+        (4, 9, 2, 730),
         (0, 1, 1, 3101),
         (0, 2, 3, 6204),
     ];
@@ -151,7 +158,7 @@ fn another_kind_is_seen() {
     *kind = 3;
     assert_eq!(first_difference(&fields(&list), &fields(&other)), Some(4));
     // queue 2's second record is that job's, in the same turn, with its kind in the public bytes
-    let place = 21 + 4 + 4 * 179 + 2;
+    let place = 23 + 4 + 4 * 179 + 2;
     assert_eq!(first_difference(&run(&list).0, &run(&other).0), Some(place));
 }
 
