@@ -1,4 +1,4 @@
-// What the two forms of the Helmholtz energy, helmholtz_4.rt and helmholtz_12.rt, share: whole jets, and the roots of their first
+// What helmholtz_4.rt works with for several components: sums of whole jets in a row, and the roots of their first
 // coefficients.
 ghost use mathlib.Core.Path.{_≡_};
 ghost use Prim.Native.Nat.{ℕ, _+_, _*_, _≤_, _<_};

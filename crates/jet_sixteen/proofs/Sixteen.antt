@@ -29,7 +29,7 @@ number-same : (x : Float) → take 16 (numberOf x) ≡ number16 x
 unfolding numberOf number16
 number-same x = refl
 
--- a mark below 16 stands among the first sixteen
+-- a mark stands among the first sixteen, or beyond them in both
 take-set : (n m : ℕ) (l : List Float) (x : Float) → take n (set l m x) ≡ set (take n l) m x
 take-set zero m l x = refl
 take-set (suc n) m [] x = refl
@@ -50,7 +50,7 @@ head-same a a' e = first a 0 (omega arith) ∙ ap (λ (l : List Float). at l 0) 
 pub same-sixteen : (f : Formula) → SameSixteen f
 unfolding value value16 withMarkOf sumOf differenceOf negationOf productOf quotientOf rootOf logarithmOf derivativeOf
 same-sixteen (number x) = number-same x
-same-sixteen (marked m h x) = marked-same m x
+same-sixteen (marked m x) = marked-same m x
 same-sixteen (withMark m a) = rw (← same-sixteen a) (sixteen (withMarkAt m (value a)) (withMark16At m (take 16 (value a))) (λ p c h. ap (cond (eqb p m) f1) (first (value a) p h)))
 same-sixteen (sum a b) =
     rw (← same-sixteen a, ← same-sixteen b) (sixteen (sumAt (value a) (value b)) (sum16At (take 16 (value a)) (take 16 (value b))) (λ m c h. rw (first (value a) m h, first (value b) m h)))

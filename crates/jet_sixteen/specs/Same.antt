@@ -1,7 +1,7 @@
 -- Formulas of jets, worked out in jets of 32 and in jets of 16. Statements only; `same-sixteen` in proofs/Sixteen.antt proves them. Every evaluation of kinds 1 to 8 is such a formula in the
--- marks e0, e1 and e2, with branches on the coefficient at position 0, so that the bits it yields are those that it yielded in jets of 16.
+-- marks e0, e1 and e2, with branches on the coefficient at position 0, so that the bits it yields are those of jets of 16.
 use mathlib.Core.Path.{_≡_}
-use Prim.Native.Nat.{ℕ, _<_}
+use Prim.Native.Nat.{ℕ}
 use mathlib.Core.Bool.{Bool, cond}
 use mathlib.Core.List.{List}
 use lib.ListN.{take}
@@ -11,7 +11,7 @@ use Rattle.jet_sixteen.specs.Sixteen.{number16, marked16, withMark16At, 
 
 pub data Formula : Type 0 where
   number : Float → Formula
-  marked : (m : ℕ) → m < 16 → Float → Formula
+  marked : (m : ℕ) → Float → Formula
   withMark : (m : ℕ) → Formula → Formula
   sum difference product quotient : Formula → Formula → Formula
   negation root logarithm : Formula → Formula
@@ -21,7 +21,7 @@ pub data Formula : Type 0 where
 -- in jets of 32
 unfoldable pub value : Formula → List Float
 value (number x) = numberOf x
-value (marked m h x) = markedOf m x
+value (marked m x) = markedOf m x
 value (withMark m a) = withMarkOf m (value a)
 value (sum a b) = sumOf (value a) (value b)
 value (difference a b) = differenceOf (value a) (value b)
@@ -36,7 +36,7 @@ value (branch t a b x y) = cond (t (at (value a) 0) (at (value b) 0)) (value x) 
 -- in jets of 16
 unfoldable pub value16 : Formula → List Float
 value16 (number x) = number16 x
-value16 (marked m h x) = marked16 m x
+value16 (marked m x) = marked16 m x
 value16 (withMark m a) = jet16 (withMark16At m (value16 a))
 value16 (sum a b) = jet16 (sum16At (value16 a) (value16 b))
 value16 (difference a b) = jet16 (difference16At (value16 a) (value16 b))
