@@ -24,12 +24,11 @@ use Rattle.eos.specs.Cubic.{nth}
 use Rattle.eos.specs.Helmholtz.{helmholtz}
 use Rattle.eos.proofs.Energy.{only-first, helmholtz-cong, volume-cong}
 use Rattle.eos.proofs.Pair.{both}
-use Rattle.evaluations.specs.declared.types.Criticality.{Criticality}
 use Rattle.evaluations.specs.declared.types.Stability.{Stability}
 use Rattle.evaluations.specs.declared.types.PressureCriticality.{PressureCriticality}
 use Rattle.evaluations.specs.declared.types.SymmetricMatrix.{SymmetricMatrix}
 use Rattle.evaluations.specs.declared.types.BinaryState.{BinaryState}
-use Rattle.evaluations.specs.Critical.{energyOverT, along, secondAlong, dmuDn, matrix, eigenvalue, eigenvector, moved, movedAlong, idealTerm, idealGas, thirdDerivative, criticalCount, fractionsOf, criticalityConditions, stabilityCondition}
+use Rattle.evaluations.specs.Critical.{energyOverT, along, secondAlong, dmuDn, matrix, eigenvalue, eigenvector, moved, movedAlong, idealTerm, idealGas, thirdDerivative, criticalCount, fractionsOf, criticalityOf, criticalityConditions, stabilityCondition}
 use Rattle.evaluations.specs.CriticalBinary.{densityOf, molefracsOf, binaryEigenvalue, binaryThird, criticalityConditionsT, pressureCondition, conditionOf, criticalityConditionsP}
 use Rattle.evaluations.specs.Entries.{Width, Entries, thirdAt, StateOf}
 use Rattle.evaluations.proofs.CriticalCong.{entry-cong, moved-cong, energy-cong, gas-cong, eigenvalue-cong, third-cong}
@@ -218,8 +217,8 @@ module _ (b : Blend) (t v x1 x2 : List Float) (e1 : x1 ≡ numberOf (nth (b .x) 
 
 -- six numbers read off two jets
 module _ (l l' c c' : List Float) (L : Upto 12 l l') (C : Upto 12 c c') where
-  pub six-read : _≡_ {A = Criticality} (record { l = at l 0; c2 = at c 0; «dl_d0» = at l 4; «dl_d1» = at l 8; «dc2_d0» = at c 4; «dc2_d1» = at c 8 }) (record { l = at l' 0; c2 = at c' 0; «dl_d0» = at l' 4; «dl_d1» = at l' 8; «dc2_d0» = at c' 4; «dc2_d1» = at c' 8 })
-  unfolding firstOrder
+  pub six-read : criticalityOf l c ≡ criticalityOf l' c'
+  unfolding criticalityOf firstOrder
   six-read =
       rw (taken 12 0 l l' L (omega arith) refl, taken 12 4 l l' L (omega arith) refl, taken 12 8 l l' L (omega arith) refl, taken 12 0 c c' C (omega arith) refl, taken 12 4 c c' C (omega arith) refl, taken 12 8 c c' C (omega arith) refl)
 
@@ -228,7 +227,7 @@ module _ (b : Blend) (τ ρ : Float) (t v : List Float) (ev : Upto 12 v (recipOf
   volume = recipOf (markedOf 8 ρ)
 
   pub criticality-law : (l c : List Float) → t ≡ markedOf 4 τ → Upto 12 l (eigenvalue b (criticalCount b) t v (fractionsOf b)) → Upto 12 c (thirdDerivative b (criticalCount b) t v (fractionsOf b))
-      → _≡_ {A = Criticality} (record { l = at l 0; c2 = at c 0; «dl_d0» = at l 4; «dl_d1» = at l 8; «dc2_d0» = at c 4; «dc2_d1» = at c 8 }) (criticalityConditions b τ ρ)
+      → criticalityOf l c ≡ criticalityConditions b τ ρ
   unfolding criticalityConditions
   criticality-law l c et el ec =
       let k = criticalCount b in
@@ -287,7 +286,7 @@ module _ (w : ℕ) (ρ0 ρ1 : List Float) where
         add-upto w np _ out (is w enp ∙ negation-first w p _ P) n (numberOf pressure) (is w en) eo
 
 pub criticality-t-law : (b : Blend) (τ ρ0 ρ1 : Float) (t r0 r1 l c : List Float) → t ≡ numberOf τ → r0 ≡ markedOf 4 ρ0 → r1 ≡ markedOf 8 ρ1 → Upto 12 l (binaryEigenvalue b t r0 r1) → Upto 12 c (binaryThird b t r0 r1)
-    → _≡_ {A = Criticality} (record { l = at l 0; c2 = at c 0; «dl_d0» = at l 4; «dl_d1» = at l 8; «dc2_d0» = at c 4; «dc2_d1» = at c 8 }) (criticalityConditionsT b τ ρ0 ρ1)
+    → criticalityOf l c ≡ criticalityConditionsT b τ ρ0 ρ1
 unfolding criticalityConditionsT
 criticality-t-law b τ ρ0 ρ1 t r0 r1 l c et e0 e1 el ec =
     six-read l (binaryEigenvalue b (numberOf τ) (markedOf 4 ρ0) (markedOf 8 ρ1)) c (binaryThird b (numberOf τ) (markedOf 4 ρ0) (markedOf 8 ρ1)) (el ∙ is 12 (rw (et, e0, e1))) (ec ∙ is 12 (rw (et, e0, e1)))

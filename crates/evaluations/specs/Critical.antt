@@ -70,15 +70,17 @@ criticalCount b = cond (eqb (b .n) 2) 2 1
 unfoldable pub fractionsOf : Blend → ℕ → List Float
 fractionsOf b i = numberOf (nth (b .x) i)
 
+-- the two conditions with their derivatives by the unknowns that carry e1 and e2
+unfoldable pub criticalityOf : (l c : List Float) → Criticality
+criticalityOf l c = record { l = at l 0; c2 = at c 0; «dl_d0» = at l 4; «dl_d1» = at l 8; «dc2_d0» = at c 4; «dc2_d1» = at c 8 }
+
 -- `criticality_conditions` with the Jacobian by the temperature, which carries e1, and the density, which carries e2
 unfoldable pub criticalityConditions : Blend → Float → Float → Criticality
 criticalityConditions b temperature density =
     let n = criticalCount b in
     let t = markedOf 4 temperature in
     let v = recipOf (markedOf 8 density) in
-    let l = eigenvalue b n t v (fractionsOf b) in
-    let c = thirdDerivative b n t v (fractionsOf b) in
-    record { l = at l 0; c2 = at c 0; «dl_d0» = at l 4; «dl_d1» = at l 8; «dc2_d0» = at c 4; «dc2_d1» = at c 8 }
+    criticalityOf (eigenvalue b n t v (fractionsOf b)) (thirdDerivative b n t v (fractionsOf b))
 
 -- `stability_condition` of the first component, with its derivative by the density
 unfoldable pub stabilityCondition : Blend → Float → Float → Stability

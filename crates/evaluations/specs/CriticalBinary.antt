@@ -11,7 +11,7 @@ use Rattle.eos.specs.Helmholtz.{helmholtz}
 use Rattle.evaluations.specs.declared.types.Condition.{Condition}
 use Rattle.evaluations.specs.declared.types.Criticality.{Criticality}
 use Rattle.evaluations.specs.declared.types.PressureCriticality.{PressureCriticality}
-use Rattle.evaluations.specs.Critical.{eigenvalue, thirdDerivative}
+use Rattle.evaluations.specs.Critical.{eigenvalue, thirdDerivative, criticalityOf}
 
 -- "rho.sum()", and "partial_density[0] + partial_density[1]"
 unfoldable pub densityOf : (ρ0 ρ1 : List Float) → List Float
@@ -31,9 +31,10 @@ binaryThird b t ρ0 ρ1 = thirdDerivative b 2 t (recipOf (densityOf ρ0 ρ1)) (m
 -- `criticality_conditions` at a plain temperature, with the Jacobian by the partial densities, which carry e1 and e2
 unfoldable pub criticalityConditionsT : Blend → (temperature ρ0 ρ1 : Float) → Criticality
 criticalityConditionsT b temperature ρ0 ρ1 =
-    let l = binaryEigenvalue b (numberOf temperature) (markedOf 4 ρ0) (markedOf 8 ρ1) in
-    let c = binaryThird b (numberOf temperature) (markedOf 4 ρ0) (markedOf 8 ρ1) in
-    record { l = at l 0; c2 = at c 0; «dl_d0» = at l 4; «dl_d1» = at l 8; «dc2_d0» = at c 4; «dc2_d1» = at c 8 }
+    let t = numberOf temperature in
+    let r0 = markedOf 4 ρ0 in
+    let r1 = markedOf 8 ρ1 in
+    criticalityOf (binaryEigenvalue b t r0 r1) (binaryThird b t r0 r1)
 
 -- "-p_calc + pressure", with "p_calc = -da + density * temperature" and da "first_derivative(a, density.recip())"
 unfoldable pub pressureCondition : Blend → (pressure : Float) (t ρ0 ρ1 : List Float) → List Float

@@ -2,7 +2,7 @@
 // component of a blend, with derivatives by temperature and density.
 ghost use mathlib.Core.Path.{_≡_};
 ghost use Rattle.jet.specs.Coefficients.{Upto, markedOf, recipOf};
-ghost use Rattle.evaluations.specs.Critical.{eigenvalue, thirdDerivative, criticalCount, fractionsOf, criticalityConditions, stabilityCondition};
+ghost use Rattle.evaluations.specs.Critical.{eigenvalue, thirdDerivative, criticalCount, fractionsOf, criticalityOf, criticalityConditions, stabilityCondition};
 use crate::one_component;
 use crate::two_components;
 use crate::types::ConditionJets;
@@ -38,12 +38,10 @@ fn conditions(blend: Blend, t: Jet, v: Jet) -> ConditionJets
     one_component::conditions(blend, t, v)
 }
 
-pub fn criticality_conditions(blend: Blend, temperature: f64, density: f64) -> Criticality
-    ensures { λ r. ⌜ r ≡ criticalityConditions blend temperature density ⌝ }
+// The two conditions with their derivatives by the unknowns that carry e1 and e2.
+pub fn criticality(c: ConditionJets) -> Criticality
+    ensures { λ r. ⌜ r ≡ criticalityOf (c .l .c) (c .c2 .c) ⌝ }
 {
-    let t = jet::marked(4, temperature);
-    let v = volume(density);
-    let c = conditions(blend, t, v);
     let l = c.l;
     let c2 = c.c2;
     let f = l.c;
@@ -56,6 +54,14 @@ pub fn criticality_conditions(blend: Blend, temperature: f64, density: f64) -> C
         dc2_d0: g[4],
         dc2_d1: g[8],
     }
+}
+
+pub fn criticality_conditions(blend: Blend, temperature: f64, density: f64) -> Criticality
+    ensures { λ r. ⌜ r ≡ criticalityConditions blend temperature density ⌝ }
+{
+    let t = jet::marked(4, temperature);
+    let v = volume(density);
+    criticality(conditions(blend, t, v))
 }
 
 pub fn stability_condition(blend: Blend, temperature: f64, density: f64) -> Stability

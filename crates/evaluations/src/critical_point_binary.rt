@@ -6,6 +6,7 @@ ghost use Rattle.jet.specs.Coefficients.{Upto};
 ghost use Rattle.eos.specs.Helmholtz.{aksOf, AkRoots};
 ghost use Rattle.evaluations.specs.CriticalBinary.{binaryEigenvalue, binaryThird, criticalityConditionsT, pressureCondition, conditionOf, criticalityConditionsP};
 ghost use Rattle.evaluations.specs.Entries.{Width, StateOf};
+use crate::critical_point::criticality;
 use crate::two_components;
 use crate::types::BinaryState;
 use crate::types::Condition;
@@ -64,18 +65,7 @@ pub fn criticality_conditions_t(blend: Blend, temperature: f64, rho0: f64, rho1:
         jet::marked(4, rho0),
         jet::marked(8, rho1),
     );
-    let l = c.l;
-    let c2 = c.c2;
-    let f = l.c;
-    let g = c2.c;
-    Criticality {
-        l: f[0],
-        c2: g[0],
-        dl_d0: f[4],
-        dl_d1: f[8],
-        dc2_d0: g[4],
-        dc2_d1: g[8],
-    }
+    criticality(c)
 }
 
 // The condition of the pressure: what it is less what it comes to.

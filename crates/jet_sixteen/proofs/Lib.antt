@@ -1,2 +1,4 @@
 pub mod Rules
-pub mod Sixteen
+pub mod Operations
+pub mod Evaluations
+pub mod Same

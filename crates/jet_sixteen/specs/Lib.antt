@@ -1,2 +1,3 @@
 pub mod Sixteen
+pub mod Evaluations
 pub mod Same

@@ -6,7 +6,7 @@ use mathlib.Core.List.{List, [], _∷_}
 use lib.Dec.{leb, eqb}
 use lib.IntN.{pos}
 use lib.ListN.{set, replicate}
-use lib.Ieee.{Float, binary64, neg, ofInt}
+use lib.Ieee.{Float, binary64, ofInt}
 use Rattle.float.specs.Ops.{_⊕_, _⊖_, _⊗_, _⊘_, f0, f1, f2}
 use Rattle.float.specs.Root.{root}
 use Rattle.float.specs.Ln.{lnOf}
@@ -39,9 +39,6 @@ sum16At a b c m = at a m ⊕ at b m
 abbrev pub difference16At : List Float → List Float → List Float → ℕ → Float
 difference16At a b c m = at a m ⊖ at b m
 
-abbrev pub negation16At : List Float → List Float → ℕ → Float
-negation16At a c m = neg (at a m)
-
 unfoldable pub product16At : List Float → List Float → List Float → ℕ → Float
 product16At a b c m = total (λ p. at a p ⊗ at b (m - p)) (among16 (suc m) 0 m)
 
@@ -63,3 +60,45 @@ derivative16At k a c m = cond (leb k 3 && eqb (m % 4) 0) (factorialOf k ⊗ at a
 -- the jet of a rule
 abbrev pub jet16 : (List Float → ℕ → Float) → List Float
 jet16 f = build f 16
+
+unfoldable pub withMark16 : ℕ → List Float → List Float
+withMark16 m a = jet16 (withMark16At m a)
+
+unfoldable pub sum16 : List Float → List Float → List Float
+sum16 a b = jet16 (sum16At a b)
+
+unfoldable pub difference16 : List Float → List Float → List Float
+difference16 a b = jet16 (difference16At a b)
+
+unfoldable pub product16 : List Float → List Float → List Float
+product16 a b = jet16 (product16At a b)
+
+unfoldable pub quotient16 : List Float → List Float → List Float
+quotient16 a b = jet16 (quotient16At a b)
+
+unfoldable pub root16 : List Float → List Float
+root16 a = jet16 (root16At a)
+
+unfoldable pub logarithm16 : List Float → List Float
+logarithm16 a = jet16 (logarithm16At a)
+
+unfoldable pub derivative16 : ℕ → List Float → List Float
+derivative16 k a = jet16 (derivative16At k a)
+
+-- as operators
+abbrev pub _⊞′_ : List Float → List Float → List Float
+_⊞′_ = sum16
+
+abbrev pub _⊟′_ : List Float → List Float → List Float
+_⊟′_ = difference16
+
+abbrev pub _⊠′_ : List Float → List Float → List Float
+_⊠′_ = product16
+
+abbrev pub _⧄′_ : List Float → List Float → List Float
+_⧄′_ = quotient16
+
+infixl 60 _⊞′_
+infixl 60 _⊟′_
+infixl 70 _⊠′_
+infixl 70 _⧄′_

@@ -1,4 +1,5 @@
 -- `evaluations::critical_point_binary::criticality_conditions_t` meets its contract. Assumes nothing.
+use mathlib.Core.Path.{_∙_}
 use Rattle.evaluations.proofs.CriticalLaws.{criticality-t-law}
 use borrow.Author.Needs.{needs}
 use Rattle.evaluations.proofs.critical_point_binary.criticality_conditions_t.Statement.{
@@ -21,28 +22,15 @@ marked-requires-2 c κs = search needs
 conditions-requires : tie.Need-conditions-requires
 conditions-requires c κs = search needs
 
-array-read-t16 : tie.Need-array-read-t16
-array-read-t16 c = search needs
-
-array-read-t19 : tie.Need-array-read-t19
-array-read-t19 c = search needs
-
-array-read-t22 : tie.Need-array-read-t22
-array-read-t22 c = search needs
-
-array-read-t25 : tie.Need-array-read-t25
-array-read-t25 c = search needs
-
-array-read-t28 : tie.Need-array-read-t28
-array-read-t28 c = search needs
-
-array-read-t31 : tie.Need-array-read-t31
-array-read-t31 c = search needs
+criticality-requires : tie.Need-criticality-requires
+criticality-requires c κs = search needs
 
 returns : tie.Need-returns
 returns c =
-    let a = c .before .before .before .before .before .before .before .before .before .args in
-    criticality-t-law (a .blend) (a .temperature) (a .rho0) (a .rho1) _ _ _ _ _ (c .before .before .before .before .before .before .before .before .number .ensures) (c .before .before .before .before .before .before .marked .ensures) (c .before .before .before .before .before .marked2 .ensures) (c .before .before .before .before .conditions .ensures .0) (c .before .before .before .before .conditions .ensures .1)
+    let a = c .before .before .before .before .before .before .args in
+    let d = c .before .conditions in
+    c .criticality .ensures
+    ∙ criticality-t-law (a .blend) (a .temperature) (a .rho0) (a .rho1) _ _ _ _ _ (c .before .before .before .before .before .number .ensures) (c .before .before .before .marked .ensures) (c .before .before .marked2 .ensures) (d .ensures .0) (d .ensures .1)
 
 pub criticality-conditions-t-spec : {M : Type 1} → statement M
 criticality-conditions-t-spec =
@@ -53,10 +41,5 @@ criticality-conditions-t-spec =
     marked-requires
     marked-requires-2
     conditions-requires
-    array-read-t16
-    array-read-t19
-    array-read-t22
-    array-read-t25
-    array-read-t28
-    array-read-t31
+    criticality-requires
     returns)
