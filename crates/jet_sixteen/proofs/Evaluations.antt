@@ -1,25 +1,22 @@
 -- Each formula of the evaluations of kinds 1 to 8 has in jets of 32 the first sixteen coefficients that it has in jets of 16. Assumes nothing.
-use mathlib.Core.Path.{_≡_, refl}
-use Prim.Native.Nat.{ℕ, _+_, _*_}
+use mathlib.Core.Path.{_≡_}
+use Prim.Native.Nat.{ℕ}
 use native.Mathlib.Omega.{arith}
 use mathlib.Core.Bool.{Bool, cond, _||_}
 use mathlib.Core.List.{List}
 use lib.Dec.{eqb}
 use lib.Ieee.{Float, eq, le}
 use Rattle.float.specs.Ops.{_⊕_, _⊖_, _⊘_, f0, f1, f2, f4}
-use Rattle.jet.specs.Coefficients.{at, numberOf, markedOf, withMarkOf, squareOf, recipOf}
-use Rattle.jet.specs.Ops.{_⊞_, _⧄_}
+use Rattle.jet.specs.Coefficients.{at, squareOf}
 use Rattle.linear.specs.SmallestEv.{half, smallestOf, lengthOf, unitOf, vectorOf}
 use Rattle.eos.specs.declared.types.Blend.{Blend}
-use Rattle.eos.specs.Indices.{jetTotal}
 use Rattle.eos.specs.Jets.{pairOf}
 use Rattle.eos.specs.Cubic.{nth, componentsOf, sqrt2, akOf, mixTerm, mixRow, akMix, bMix, repulsion, logRatio, attraction, contribution}
-use Rattle.eos.specs.Helmholtz.{aksOf, partialDensity, molefracs, energyDensity, helmholtz}
+use Rattle.eos.specs.Helmholtz.{partialDensity, molefracs, energyDensity, helmholtz}
 use Rattle.evaluations.specs.Residual.{alongVolume, derived, pressureFrom, slopeFrom, curvatureFrom, pDpdrho, pDpdrhoD2pdrho2, chemicalPotential}
 use Rattle.evaluations.specs.Critical.{energyOverT, along, secondAlong, dmuDn, matrix, eigenvalue, eigenvector, moved, movedAlong, idealTerm, idealGas, thirdDerivative, criticalCount, fractionsOf, criticalityOf, criticalityConditions, stabilityCondition}
 use Rattle.evaluations.specs.CriticalBinary.{densityOf, molefracsOf, binaryEigenvalue, binaryThird, criticalityConditionsT}
-use Rattle.jet_sixteen.specs.Sixteen.{number16, marked16, withMark16, sum16, root16, _⊞′_, _⧄′_}
-use Rattle.jet_sixteen.specs.Evaluations.{recip16, total16, ak16, mixTerm16, akMix16, bMix16, repulsion16, logRatio16, attraction16, contribution16, molefracs16, energyDensity16, helmholtz16, fractions16, alongVolume16, pDpdrho16, pDpdrhoD2pdrho2₁₆, chemicalPotential16, smallest16, vector16, energyOverT16, secondAlong16, dmuDn16, matrix16, eigenvalue16, eigenvector16, moved16, idealTerm16, third16, criticalityConditions16, stabilityCondition16, criticalityConditionsT16}
+use Rattle.jet_sixteen.specs.Evaluations.{ak16, mixTerm16, akMix16, bMix16, repulsion16, logRatio16, attraction16, contribution16, molefracs16, energyDensity16, helmholtz16, fractions16, alongVolume16, pDpdrho16, pDpdrhoD2pdrho2₁₆, chemicalPotential16, smallest16, vector16, energyOverT16, secondAlong16, dmuDn16, matrix16, eigenvalue16, eigenvector16, moved16, idealTerm16, third16, criticalityConditions16, stabilityCondition16, criticalityConditionsT16}
 use Rattle.jet_sixteen.proofs.Operations.{Sixteen, reads, numbers, marks, with-marks, sums, differences, products, quotients, roots, logarithms, derivatives, recips, branches, folds, totals}
 
 -- jets by their index

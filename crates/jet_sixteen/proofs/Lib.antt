@@ -1,4 +1,5 @@
 pub mod Rules
 pub mod Operations
 pub mod Evaluations
+pub mod Asks
 pub mod Same

@@ -1,33 +1,43 @@
 -- What jets of 32 yield is what jets of 16 yield. Assumes nothing.
-use mathlib.Core.Path.{_≡_, refl, ap}
-use Prim.Native.Nat.{ℕ}
+use mathlib.Core.Path.{_≡_, ap}
+use Prim.Native.Nat.{ℕ, _≤_}
+use mathlib.Core.Bool.{true, false≢true}
 use mathlib.Core.List.{List}
+use lib.Ieee.{Float}
 use Rattle.eos.specs.declared.types.Blend.{Blend}
-use Rattle.solver.specs.Search.{Query, Evaluator, slope, curvature, potential, criticality, stability, criticalityT, criticalityP}
+use Rattle.evaluations.specs.declared.types.PressureCriticality.{PressureCriticality}
+use Rattle.solver.specs.Search.{Query, slope, curvature, potential, criticality, stability, criticalityT, criticalityP}
 use Rattle.solver.specs.Evaluated.{evaluated}
 use Rattle.reader.specs.View.{view}
-use Rattle.records.specs.Outcome.{endOf, jobCourse, outcomeOf}
+use Rattle.records.specs.Outcome.{outcomeOf}
 use Rattle.records.specs.Record.{sealedBytes, sealedOf}
 use Rattle.jet_sixteen.specs.Evaluations.{evaluated16, sealed16}
 use Rattle.jet_sixteen.specs.Same.{SameSixteen}
 use Rattle.jet_sixteen.proofs.Evaluations.{slope-same, curvature-same, potential-same, criticality-same, stability-same, criticality-t-same}
+use Rattle.jet_sixteen.proofs.Asks.{hasSixteen, job-asks, end-same}
 
-evaluated-same : (b : Blend) (q : Query) → evaluated b q ≡ evaluated16 b q
-unfolding evaluated evaluated16
-evaluated-same b (slope t ρ) = slope-same b t ρ
-evaluated-same b (curvature t ρ) = curvature-same b t ρ
-evaluated-same b (potential t ρ) = potential-same b t ρ
-evaluated-same b (criticality t ρ) = criticality-same b t ρ
-evaluated-same b (stability t ρ) = stability-same b t ρ
-evaluated-same b (criticalityT t ρ0 ρ1) = criticality-t-same b t ρ0 ρ1
-evaluated-same b (criticalityP p t ρ0 ρ1) = refl
+module _ (other : (pressure temperature ρ0 ρ1 : Float) → PressureCriticality) where
+  evaluated-same : (b : Blend) (q : Query) → hasSixteen q ≡ true → evaluated b q ≡ evaluated16 other b q
+  unfolding evaluated evaluated16
+  evaluated-same b (slope t ρ) h = slope-same b t ρ
+  evaluated-same b (curvature t ρ) h = curvature-same b t ρ
+  evaluated-same b (potential t ρ) h = potential-same b t ρ
+  evaluated-same b (criticality t ρ) h = criticality-same b t ρ
+  evaluated-same b (stability t ρ) h = stability-same b t ρ
+  evaluated-same b (criticalityT t ρ0 ρ1) h = criticality-t-same b t ρ0 ρ1
+  evaluated-same b (criticalityP p t ρ0 ρ1) h = absurd (false≢true h)
 
-evaluator-same : (b : Blend) → _≡_ {A = Evaluator} (evaluated b) (evaluated16 b)
-evaluator-same b = λ i q. evaluated-same b q i
-
-sealed-same : (kind n : ℕ) (block : List ℕ) → sealedOf kind n block ≡ sealed16 kind n block
-unfolding sealedOf sealed16 outcomeOf
-sealed-same kind n block = let job = view kind n block in ap (λ (ev : Evaluator). sealedBytes (endOf ev (jobCourse job))) (evaluator-same (job .blend))
+  sealed-same : (kind n : ℕ) (block : List ℕ) → kind ≤ 8 → sealedOf kind n block ≡ sealed16 other kind n block
+  unfolding sealedOf sealed16 outcomeOf
+  sealed-same kind n block h = let b = view kind n block .blend in ap sealedBytes (end-same (evaluated b) (evaluated16 other b) (evaluated-same b) (job-asks kind n block h))
 
 pub same-sixteen : SameSixteen
-same-sixteen = record { evaluations = evaluated-same; sealed = sealed-same }
+same-sixteen = record {
+  slope = slope-same;
+  curvature = curvature-same;
+  potential = potential-same;
+  criticality = criticality-same;
+  stability = stability-same;
+  criticality-t = criticality-t-same;
+  sealed = sealed-same;
+}

@@ -15,10 +15,10 @@ use Rattle.eos.specs.Jets.{pairOf}
 use Rattle.eos.specs.Cubic.{nth, componentsOf, sqrt2}
 use Rattle.evaluations.specs.declared.types.Pressure.{Pressure}
 use Rattle.evaluations.specs.declared.types.Criticality.{Criticality}
+use Rattle.evaluations.specs.declared.types.PressureCriticality.{PressureCriticality}
 use Rattle.evaluations.specs.declared.types.Stability.{Stability}
 use Rattle.evaluations.specs.Residual.{derived, pressureFrom, slopeFrom, curvatureFrom}
 use Rattle.evaluations.specs.Critical.{criticalCount, criticalityOf}
-use Rattle.evaluations.specs.CriticalBinary.{criticalityConditionsP}
 use Rattle.solver.specs.Search.{Evaluator, slope, curvature, potential, criticality, stability, criticalityT, criticalityP}
 use Rattle.reader.specs.View.{view}
 use Rattle.records.specs.Outcome.{endOf, jobCourse}
@@ -159,15 +159,16 @@ criticalityConditionsT16 b temperature ρ0 ρ1 =
 
 -- ---- a request's evaluations and its sealed bytes
 
--- kind 9's evaluation alone has three unknowns, and so no form in jets of 16
-unfoldable pub evaluated16 : Blend → Evaluator
-evaluated16 b (slope t ρ) = pDpdrho16 b t ρ
-evaluated16 b (curvature t ρ) = pDpdrhoD2pdrho2₁₆ b t ρ
-evaluated16 b (potential t ρ) = chemicalPotential16 b t ρ
-evaluated16 b (criticality t ρ) = criticalityConditions16 b t ρ
-evaluated16 b (stability t ρ) = stabilityCondition16 b t ρ
-evaluated16 b (criticalityT t ρ0 ρ1) = criticalityConditionsT16 b t ρ0 ρ1
-evaluated16 b (criticalityP p t ρ0 ρ1) = criticalityConditionsP b p t ρ0 ρ1
+-- Kind 9's evaluation alone has three unknowns, and so no form in jets of 16: any other stands for it here.
+module _ (other : (pressure temperature ρ0 ρ1 : Float) → PressureCriticality) where
+  unfoldable pub evaluated16 : Blend → Evaluator
+  evaluated16 b (slope t ρ) = pDpdrho16 b t ρ
+  evaluated16 b (curvature t ρ) = pDpdrhoD2pdrho2₁₆ b t ρ
+  evaluated16 b (potential t ρ) = chemicalPotential16 b t ρ
+  evaluated16 b (criticality t ρ) = criticalityConditions16 b t ρ
+  evaluated16 b (stability t ρ) = stabilityCondition16 b t ρ
+  evaluated16 b (criticalityT t ρ0 ρ1) = criticalityConditionsT16 b t ρ0 ρ1
+  evaluated16 b (criticalityP p t ρ0 ρ1) = other p t ρ0 ρ1
 
-unfoldable pub sealed16 : (kind n : ℕ) → List ℕ → List ℕ
-sealed16 kind n block = let job = view kind n block in sealedBytes (endOf (evaluated16 (job .blend)) (jobCourse job))
+  unfoldable pub sealed16 : (kind n : ℕ) → List ℕ → List ℕ
+  sealed16 kind n block = let job = view kind n block in sealedBytes (endOf (evaluated16 (job .blend)) (jobCourse job))
