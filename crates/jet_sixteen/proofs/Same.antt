@@ -1,9 +1,11 @@
 -- What jets of 32 yield is what jets of 16 yield. Assumes nothing.
-use mathlib.Core.Path.{_≡_, ap}
+use mathlib.Core.Path.{_≡_, sym, ap, _∙_}
 use Prim.Native.Nat.{ℕ, _≤_}
 use mathlib.Core.Bool.{true, false≢true}
 use mathlib.Core.List.{List}
+use lib.ListN.{take}
 use lib.Ieee.{Float}
+use Rattle.jet.proofs.WithMark.{marked-number}
 use Rattle.eos.specs.declared.types.Blend.{Blend}
 use Rattle.evaluations.specs.declared.types.PressureCriticality.{PressureCriticality}
 use Rattle.solver.specs.Search.{Query, slope, curvature, potential, criticality, stability, criticalityT, criticalityP}
@@ -11,8 +13,10 @@ use Rattle.solver.specs.Evaluated.{evaluated}
 use Rattle.reader.specs.View.{view}
 use Rattle.records.specs.Outcome.{outcomeOf}
 use Rattle.records.specs.Record.{sealedBytes, sealedOf}
+use Rattle.jet_sixteen.specs.Sixteen.{number16, marked16, withMark16}
 use Rattle.jet_sixteen.specs.Evaluations.{evaluated16, sealed16}
 use Rattle.jet_sixteen.specs.Same.{SameSixteen}
+use Rattle.jet_sixteen.proofs.Operations.{numbers, marks, with-marks}
 use Rattle.jet_sixteen.proofs.Evaluations.{slope-same, curvature-same, potential-same, criticality-same, stability-same, criticality-t-same}
 use Rattle.jet_sixteen.proofs.Asks.{hasSixteen, job-asks, end-same}
 
@@ -31,6 +35,9 @@ module _ (other : (pressure temperature ρ0 ρ1 : Float) → PressureCriticality
   unfolding sealedOf sealed16 outcomeOf
   sealed-same kind n block h = let b = view kind n block .blend in ap sealedBytes (end-same (evaluated b) (evaluated16 other b) (evaluated-same b) (job-asks kind n block h))
 
+mark-same : (x : Float) → withMark16 1 (number16 x) ≡ marked16 1 x
+mark-same x = sym (with-marks 1 (numbers x) .same) ∙ ap (take 16) (marked-number x) ∙ marks 1 x .same
+
 pub same-sixteen : SameSixteen
 same-sixteen = record {
   slope = slope-same;
@@ -39,5 +46,6 @@ same-sixteen = record {
   criticality = criticality-same;
   stability = stability-same;
   criticality-t = criticality-t-same;
+  mark = mark-same;
   sealed = sealed-same;
 }
