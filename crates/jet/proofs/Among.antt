@@ -1,13 +1,13 @@
--- The positions not above another: where they lie, and how the pairs of a position split. Assumes nothing.
+-- The positions not above another: where they lie, and how their lists split. Assumes nothing.
 use mathlib.Core.Path.{_≡_, refl, sym, ap, _∙_, subst}
 use Prim.Native.Nat.{ℕ, zero, suc, _+_, _-_, _*_, _/_, _%_, _≤_, _<_}
 use native.Mathlib.Omega.{arith}
-use native.Mathlib.Nat.{add-zero, zero-add, add-suc, suc-add, le-trans}
+use native.Mathlib.Nat.{add-zero, zero-add, add-suc, suc-add, le-trans, lt-of-le-of-lt}
 use mathlib.Core.Bool.{Bool, true, false, cond, _&&_}
 use mathlib.Core.List.{List, [], _∷_, _++_}
 use lib.Dec.{leb}
 use borrow.Author.Tests.{le-leb, leb-true}
-use Rattle.jet.specs.Positions.{degree0, degree1, degree2, degree3, notAbove, among, pairsOf, before, between}
+use Rattle.jet.specs.Positions.{degree0, degree1, degree2, degree3, notAbove, among, pairsOf}
 use Rattle.jet.proofs.Every.{Every, none, more, every-map}
 
 -- ---- the order
@@ -60,6 +60,20 @@ parts m =
     let q3 : m / 8 ≡ m / 8 % 2 + 2 * (m / 16) = omega arith in
     record { whole = omega (arith, q1, q2, q3); below0 = omega arith; below1 = omega arith; below2 = omega arith }
 
+-- a position made of parts none of which is above m's
+pub made : (i j k l m : ℕ) → i ≤ degree0 m → j ≤ degree1 m → k ≤ degree2 m → l ≤ degree3 m → notAbove (i + 4 * j + 8 * k + 16 * l) m ≡ true
+made i j k l m hi hj hk hl =
+    let bi = lt-of-le-of-lt hi (parts m .below0) in
+    let bj = lt-of-le-of-lt hj (parts m .below1) in
+    let bk = lt-of-le-of-lt hk (parts m .below2) in
+    tells (i + 4 * j + 8 * k + 16 * l) m
+    (record {
+      in0 = subst (λ (d : ℕ). d ≤ degree0 m) (sym (made0 i j k l bi)) hi;
+      in1 = subst (λ (d : ℕ). d ≤ degree1 m) (sym (made1 i j k l bi bj)) hj;
+      in2 = subst (λ (d : ℕ). d ≤ degree2 m) (sym (made2 i j k l bi bj bk)) hk;
+      in3 = subst (λ (d : ℕ). d ≤ degree3 m) (sym (made3 i j k l bi bj bk)) hl;
+    })
+
 pub least : (m : ℕ) → notAbove 0 m ≡ true
 least m = tells 0 m (record { in0 = omega arith; in1 = omega arith; in2 = omega arith; in3 = omega arith })
 
@@ -86,9 +100,6 @@ no-larger p m e =
     let a = told p m e in
     smaller p m (degree0 m) (degree1 m) (degree2 m) (degree3 m) (degree0 p) (degree1 p) (degree2 p) (degree3 p) (parts m .whole) (parts p .whole) (a .in0) (a .in1) (a .in2) (a .in3)
 
-less-below : (a b n : ℕ) → a < n → a - b < n
-less-below a b n h = omega arith
-
 less-le : (a b : ℕ) → a - b ≤ a
 less-le a b = omega arith
 
@@ -96,21 +107,9 @@ less-le a b = omega arith
 pub rest : (p m : ℕ) → notAbove p m ≡ true → notAbove (m - p) m ≡ true
 rest p m e =
     let a = told p m e in
-    let i = degree0 m - degree0 p in
-    let j = degree1 m - degree1 p in
-    let k = degree2 m - degree2 p in
-    let l = degree3 m - degree3 p in
-    let hi = less-below (degree0 m) (degree0 p) 4 (parts m .below0) in
-    let hj = less-below (degree1 m) (degree1 p) 2 (parts m .below1) in
-    let hk = less-below (degree2 m) (degree2 p) 2 (parts m .below2) in
     let w = left p m (degree0 m) (degree1 m) (degree2 m) (degree3 m) (degree0 p) (degree1 p) (degree2 p) (degree3 p) (parts m .whole) (parts p .whole) (a .in0) (a .in1) (a .in2) (a .in3) in
-    tells (m - p) m
-    (record {
-      in0 = subst (λ (d : ℕ). d ≤ degree0 m) (sym (ap degree0 w ∙ made0 i j k l hi)) (less-le (degree0 m) (degree0 p));
-      in1 = subst (λ (d : ℕ). d ≤ degree1 m) (sym (ap degree1 w ∙ made1 i j k l hi hj)) (less-le (degree1 m) (degree1 p));
-      in2 = subst (λ (d : ℕ). d ≤ degree2 m) (sym (ap degree2 w ∙ made2 i j k l hi hj hk)) (less-le (degree2 m) (degree2 p));
-      in3 = subst (λ (d : ℕ). d ≤ degree3 m) (sym (ap degree3 w ∙ made3 i j k l hi hj hk)) (less-le (degree3 m) (degree3 p));
-    })
+    subst (λ (q : ℕ). notAbove q m ≡ true) (sym w)
+    (made (degree0 m - degree0 p) (degree1 m - degree1 p) (degree2 m - degree2 p) (degree3 m - degree3 p) m (less-le (degree0 m) (degree0 p)) (less-le (degree1 m) (degree1 p)) (less-le (degree2 m) (degree2 p)) (less-le (degree3 m) (degree3 p)))
 
 -- ---- the lists
 
@@ -132,23 +131,33 @@ amongs (suc k) p m = go (notAbove p m) refl (every-map (In k (suc p) m) (In (suc
     go true e r = more (record { under = e; from = omega arith; to = omega arith }) r
     go false e r = r
 
+-- where none of these is not above m, the list is empty
+pub nothing : (k p m : ℕ) → ((q : ℕ) → In k p m q → ⊥) → among k p m ≡ []
+nothing k p m h = go (among k p m) (amongs k p m)
+  where
+    go : (l : List ℕ) → Every (In k p m) l → l ≡ []
+    go [] none = refl
+    go (q ∷ l) (more i e) = absurd (h q i)
+
 cond-append : (b : Bool) (p : ℕ) (l r : List ℕ) → cond b (p ∷ l ++ r) (l ++ r) ≡ cond b (p ∷ l) l ++ r
 cond-append true p l r = refl
 cond-append false p l r = refl
 
-among-last : (k p m : ℕ) → notAbove (p + k) m ≡ true → among (suc k) p m ≡ among k p m ++ ((p + k) ∷ [])
+-- a list of j + k positions is one of j and one of the k after them
+pub among-split : (j k p m : ℕ) → among (j + k) p m ≡ among j p m ++ among k (p + j) m
 unfolding among
-among-last zero p m e = rw (add-zero, (rw add-zero at e))
-among-last (suc k) p m e =
-    ap (λ (l : List ℕ). cond (notAbove p m) (p ∷ l) l) (among-last k (suc p) m (rw (suc-add, ← add-suc) e))
-    ∙ cond-append (notAbove p m) p (among k (suc p) m) ((suc p + k) ∷ [])
-    ∙ ap (λ (q : ℕ). cond (notAbove p m) (p ∷ among k (suc p) m) (among k (suc p) m) ++ (q ∷ [])) (suc-add p k ∙ sym (add-suc p k))
+among-split zero k p m = rw (zero-add, add-zero)
+among-split (suc j) k p m =
+    ap (λ (n : ℕ). among n p m) (suc-add j k)
+    ∙ ap (λ (l : List ℕ). cond (notAbove p m) (p ∷ l) l) (among-split j k (suc p) m)
+    ∙ cond-append (notAbove p m) p (among j (suc p) m) (among k (suc p + j) m)
+    ∙ ap (λ (q : ℕ). cond (notAbove p m) (p ∷ among j (suc p) m) (among j (suc p) m) ++ among k q m) (suc-add p j ∙ sym (add-suc p j))
 
--- the last of the pairs of m is m, and the first of several is 0
-pub pairs-split : (m : ℕ) → pairsOf m ≡ before m ++ (m ∷ [])
-unfolding pairsOf before
-pairs-split m = rw (among-last m 0 m (rw zero-add (itself m)), zero-add)
+pub among-first : (k p m : ℕ) → notAbove p m ≡ true → among (suc k) p m ≡ p ∷ among k (suc p) m
+unfolding among
+among-first k p m e = rw e
 
-pub before-split : (k : ℕ) → before (suc k) ≡ 0 ∷ between (suc k)
-unfolding before between among
-before-split k = rw (least (suc k))
+-- the first of the pairs of m is 0
+pub pairs-first : (m : ℕ) → pairsOf m ≡ 0 ∷ among m 1 m
+unfolding pairsOf
+pairs-first m = among-first m 0 m (least m)

@@ -1,19 +1,15 @@
--- A fold over a list from a place on, as a loop makes it. Assumes nothing.
-use mathlib.Core.Path.{_≡_, sym, _∙_}
-use Prim.Native.Nat.{ℕ, _+_, _-_, _≤_, _<_}
+-- A fold over the positions not above m, as a loop makes it that steps from one to the next. Assumes nothing.
+use mathlib.Core.Path.{_≡_, sym, ap, _∙_}
+use Prim.Native.Nat.{ℕ, suc, _-_, _≤_, _<_}
 use native.Mathlib.Omega.{arith}
-use native.Mathlib.Numerals.{add-one}
-use mathlib.Core.Bool.{Bool, _&&_}
-use mathlib.Core.List.{List, [], _∷_, foldl}
-use lib.ListN.{length, getD, drop, length-append, drop-of-length-le, List·getD-append}
-use lib.Seq.{drop-cons}
-use lib.Dec.{T, eqb, eqb→eq}
+use mathlib.Core.Bool.{true}
+use mathlib.Core.List.{List, foldl}
 use lib.Ieee.{Float}
 use Rattle.float.specs.Ops.{_⊕_, _⊖_, _⊗_}
-use Rattle.jet.specs.Positions.{notAbove, among, pairsOf, before}
+use Rattle.jet.specs.Positions.{notAbove, among}
 use Rattle.jet.specs.Coefficients.{at}
-use Rattle.jet.proofs.Among.{pairs-split}
-use Rattle.jet.proofs.Every.{each, each-at, both}
+use Rattle.jet.proofs.Among.{among-first}
+use Rattle.jet.proofs.Next.{Next, after, before}
 
 -- s with the term of p more, or less
 abbrev pub adding : List Float → List Float → ℕ → Float → ℕ → Float
@@ -22,36 +18,18 @@ adding a b m s p = s ⊕ at a p ⊗ at b (m - p)
 abbrev pub subtracting : List Float → List Float → ℕ → Float → ℕ → Float
 subtracting a b m s p = s ⊖ at a p ⊗ at b (m - p)
 
-pub fold-step : (f : Float → ℕ → Float) (l : List ℕ) (t : ℕ) (s : Float) → t < length l → foldl f s (drop t l) ≡ foldl f (f s (getD l t 0)) (drop (t + 1) l)
-fold-step f l t s h = rw (drop-cons l t 0, add-one)
+module _ (f : Float → ℕ → Float) (m : ℕ) (w : Float) where
+  -- a turn that leaves the whole fold as it was: step to r, then take its term in
+  pub step-then-term : (p r : ℕ) (s : Float) → Next p m r → foldl f s (among (m - p) (suc p) m) ≡ w → foldl f (f s r) (among (m - r) (suc r) m) ≡ w
+  step-then-term p r s n e = sym (ap (λ (l : List ℕ). foldl f s l) (after p m r n)) ∙ e
 
-pub fold-end : (f : Float → ℕ → Float) (l : List ℕ) (t : ℕ) (s : Float) → length l ≤ t → foldl f s (drop t l) ≡ s
-fold-end f l t s h = rw (drop-of-length-le l h)
+  -- take the term of p in, then step to r
+  pub term-then-step : (p r : ℕ) (s : Float) → p < m → notAbove p m ≡ true → Next p m r → foldl f s (among (m - p) p m) ≡ w → foldl f (f s p) (among (m - r) r m) ≡ w
+  term-then-step p r s h u n e =
+      let c : m - p ≡ suc (m - suc p) = omega arith in
+      sym (ap (λ (l : List ℕ). foldl f s l) (ap (λ (k : ℕ). among k p m) c ∙ among-first (m - suc p) p m u) ∙ ap (λ (l : List ℕ). foldl f (f s p) l) (before p m r n)) ∙ e
 
--- a turn of a loop that leaves the whole fold as it was: s' is s with the term at t
-pub fold-turn : (f : Float → ℕ → Float) (l : List ℕ) (t p : ℕ) (s w : Float) → t < length l → p ≡ getD l t 0 → foldl f s (drop t l) ≡ w → foldl f (f s p) (drop (t + 1) l) ≡ w
-fold-turn f l t p s w h e g = rw e (sym (fold-step f l t s h) ∙ g)
-
-pub length-before : (m : ℕ) → length (before m) ≡ length (pairsOf m) - 1
-length-before m = rw (pairs-split m, length-append) (omega arith)
-
-pub before-at : (m t : ℕ) → t < length (before m) → getD (pairsOf m) t 0 ≡ getD (before m) t 0
-before-at m t h = rw (pairs-split m) (List·getD-append (before m) (m ∷ []) 0 t h)
-
-pub pairs-some : (m : ℕ) → 1 ≤ length (pairsOf m)
-pairs-some m = rw (pairs-split m, length-append) (omega arith)
-
--- the positions not above one that is free of e1, e2 and e3 are 0 to it: one computed test
-low : ℕ → Bool
-low m = eqb (length (pairsOf m)) (m + 1) && each (λ p. eqb (getD (pairsOf m) p 0) p) (m + 1)
-
-module _ (m : ℕ) (h : m < 4) where
-  low-holds : T (eqb (length (pairsOf m)) (m + 1)) × T (each (λ p. eqb (getD (pairsOf m) p 0) p) (m + 1))
-  unfolding low pairsOf among notAbove
-  low-holds = both (eqb (length (pairsOf m)) (m + 1)) (each (λ p. eqb (getD (pairsOf m) p 0) p) (m + 1)) (each-at low 4 tt m h)
-
-  pub low-length : length (pairsOf m) ≡ m + 1
-  low-length = eqb→eq _ _ (low-holds .0)
-
-  pub low-at : (p : ℕ) → p < m + 1 → p ≡ getD (pairsOf m) p 0
-  low-at p k = sym (eqb→eq _ _ (each-at (λ p. eqb (getD (pairsOf m) p 0) p) (m + 1) (low-holds .1) p k))
+  -- none is left from m on
+  pub fold-end : (p q : ℕ) (s : Float) → m ≤ p → foldl f s (among (m - p) q m) ≡ w → s ≡ w
+  unfolding among
+  fold-end p q s h e = let z : m - p ≡ 0 = omega arith in rw z at e

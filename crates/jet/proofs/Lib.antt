@@ -1,6 +1,7 @@
 pub mod Every
 pub mod Among
-pub mod Table
+pub mod Next
+pub mod Counts
 pub mod Build
 pub mod Fold
 pub mod Rules

@@ -6,7 +6,7 @@ use native.Mathlib.Numerals.{add-one}
 use native.Mathlib.Nat.{sub-zero, not-suc-le-zero, le-of-suc-le-suc, eq-or-lt-of-le, min-eq-left, min-eq-right}
 use mathlib.Core.Logic.{⊎-elim}
 use mathlib.Core.Bool.{Bool, true, false}
-use mathlib.Core.List.{List, [], _∷_, _++_, foldl}
+use mathlib.Core.List.{List, [], _++_, foldl}
 use lib.ListN.{length, take, drop, set, replicate}
 use lib.Seq.{take-all, getD-set-same, getD-set-other}
 use lib.Ieee.{Float, nan}
@@ -14,38 +14,40 @@ use lib.Dec.{leb}
 use borrow.Author.Tests.{leb-true, leb-false}
 use Rattle.float.specs.Ops.{_⊗_, _⊘_, f0, f2}
 use Rattle.jet.specs.Positions.{positions, among, pairsOf, before, between, weightOf}
-use Rattle.jet.specs.Coefficients.{at, build, total, less, productAt, rootAt, logarithmAt, cut}
-use Rattle.jet.proofs.Among.{In, least, before-split}
+use Rattle.jet.specs.Coefficients.{at, build, total, less, productAt, quotientAt, rootAt, logarithmAt, cut}
+use Rattle.jet.proofs.Among.{In, pairs-first}
 use Rattle.jet.proofs.Build.{length-build, build-at, cut-at, length-cut, cut-all}
+use Rattle.jet.proofs.Next.{Next, between-from}
 use Rattle.jet.proofs.Fold.{adding}
 use Rattle.jet.proofs.Rules.{less-cong}
-
-pairs-first : (m : ℕ) → pairsOf m ≡ 0 ∷ among m 1 m
-unfolding pairsOf among
-pairs-first m = rw (least m)
 
 pub product-row : (a b c : List Float) (m : ℕ) → foldl (adding a b m) (at a 0 ⊗ at b m) (drop 1 (pairsOf m)) ≡ productAt a b c m
 unfolding productAt total
 product-row a b c m = rw (pairs-first m, sub-zero)
 
-pub root-row : (a r : List Float) (m : ℕ) (s q : Float) → 1 ≤ m → s ≡ less (λ p. at r p ⊗ at r (m - p)) (at a m) (drop 1 (before m)) → q ≡ at r 0 → s ⊘ (f2 ⊗ q) ≡ rootAt a r m
+pub quotient-row : (a b q : List Float) (m : ℕ) (s : Float) → s ≡ less (λ p. at q p ⊗ at b (m - p)) (at a m) (among (m - 0) 0 m) → s ⊘ at b 0 ≡ quotientAt a b q m
+unfolding quotientAt before
+quotient-row a b q m s e = rw (e, sub-zero)
+
+-- q is the first position after 0 that is not above m
+pub root-row : (a r : List Float) (m q : ℕ) (s d : Float) → 1 ≤ m → Next 0 m q → s ≡ less (λ p. at r p ⊗ at r (m - p)) (at a m) (among (m - q) q m) → d ≡ at r 0 → s ⊘ (f2 ⊗ d) ≡ rootAt a r m
 unfolding rootAt
-root-row a r zero s q h e d = absurd (not-suc-le-zero h)
-root-row a r (suc k) s q h e d = rw (e, d, before-split k)
+root-row a r zero q s d h n e g = absurd (not-suc-le-zero h)
+root-row a r (suc k) q s d h n e g = rw (e, g, ← between-from k q n)
 
 between-cong : (f g : ℕ → Float) (x : Float) (k : ℕ) → ((q : ℕ) → In k 1 (suc k) q → f q ≡ g q) → less f x (between (suc k)) ≡ less g x (between (suc k))
 unfolding between
 between-cong f g x k h = less-cong f g x k 1 (suc k) h
 
 -- wl are the coefficients of l, each times its weight
-pub logarithm-row : (a l wl : List Float) (m : ℕ) (s w : Float) → 1 ≤ m → ((p : ℕ) → 1 ≤ p → p < m → at wl p ≡ weightOf p ⊗ at l p) → w ≡ weightOf m → s ≡ less (λ p. at wl p ⊗ at a (m - p)) (w ⊗ at a m) (drop 1 (before m)) → s ⊘ (w ⊗ at a 0) ≡ logarithmAt a l m
+pub logarithm-row : (a l wl : List Float) (m q : ℕ) (s w : Float) → 1 ≤ m → Next 0 m q → ((p : ℕ) → 1 ≤ p → p < m → at wl p ≡ weightOf p ⊗ at l p) → w ≡ weightOf m → s ≡ less (λ p. at wl p ⊗ at a (m - p)) (w ⊗ at a m) (among (m - q) q m) → s ⊘ (w ⊗ at a 0) ≡ logarithmAt a l m
 unfolding logarithmAt
-logarithm-row a l wl zero s w h e g d = absurd (not-suc-le-zero h)
-logarithm-row a l wl (suc k) s w h e g d =
-    rw (d, g, before-split k)
+logarithm-row a l wl zero q s w h n e g d = absurd (not-suc-le-zero h)
+logarithm-row a l wl (suc k) q s w h n e g d =
+    rw (d, g, ← between-from k q n)
     (ap (λ (y : Float). y ⊘ (weightOf (suc k) ⊗ at a 0))
     (between-cong (λ p. at wl p ⊗ at a (suc k - p)) (λ p. (weightOf p ⊗ at l p) ⊗ at a (suc k - p)) (weightOf (suc k) ⊗ at a (suc k)) k
-    (λ q i. ap (λ (y : Float). y ⊗ at a (suc k - q)) (e q (i .from) (omega (arith, i .to))))))
+    (λ p i. ap (λ (y : Float). y ⊗ at a (suc k - p)) (e p (i .from) (omega (arith, i .to))))))
 
 -- one more weighted coefficient
 pub weighted-turn : (l wl : List Float) (m : ℕ) (v w : Float) → m < length l → m < length wl → w ≡ weightOf m → ((p : ℕ) → 1 ≤ p → p < m → at wl p ≡ weightOf p ⊗ at l p) → (p : ℕ) → 1 ≤ p → p < m + 1 → at (set wl m (w ⊗ v)) p ≡ weightOf p ⊗ at (set l m v) p

@@ -1,7 +1,7 @@
 -- The positions of a jet's coefficients, and which stand not above which. Definitions only.
-use Prim.Native.Nat.{ℕ, zero, suc, _+_, _*_, _/_, _%_}
+use Prim.Native.Nat.{ℕ, zero, suc, _+_, _/_, _%_}
 use mathlib.Core.Bool.{Bool, cond, _&&_}
-use mathlib.Core.List.{List, [], _∷_, _++_, map}
+use mathlib.Core.List.{List, [], _∷_}
 use lib.IntN.{pos}
 use lib.Dec.{leb}
 use lib.Ieee.{Float, binary64, ofInt}
@@ -42,11 +42,6 @@ before m = among m 0 m
 unfoldable pub between : ℕ → List ℕ
 between zero = []
 between (suc k) = among k 1 (suc k)
-
--- the pairs p, m of the first n positions m, each as p + 32·m, ascending
-unfoldable pub tableOf : ℕ → List ℕ
-tableOf zero = []
-tableOf (suc m) = tableOf m ++ map (λ p. p + positions * m) (pairsOf m)
 
 -- no term that two of e1, e2 and e3 share
 unfoldable pub firstOrder : ℕ → Bool

@@ -5,6 +5,7 @@ use crate::Jet;
 use crate::arith::at_most;
 use crate::four::ln_4;
 use crate::four::sqrt_4;
+use crate::positions::next;
 use crate::terms::minus;
 use crate::terms::weight;
 
@@ -24,7 +25,7 @@ pub fn sqrt_to(n: usize, a: Jet) -> Jet
     let d = 2.0 * r[0];
     let mut m: usize = 1;
     while m < end {
-        r[m] = minus(x[m], &r, &r, m, 1) / d;
+        r[m] = minus(x[m], &r, &r, m, next(0, m)) / d;
         m += 1;
     }
     Jet { c: r }
@@ -54,7 +55,7 @@ pub fn ln_to(n: usize, a: Jet) -> Jet
     let mut m: usize = 1;
     while m < end {
         let w = weight(m);
-        let v = minus(w * x[m], &wl, &x, m, 1) / (w * x[0]);
+        let v = minus(w * x[m], &wl, &x, m, next(0, m)) / (w * x[0]);
         l[m] = v;
         wl[m] = w * v;
         m += 1;

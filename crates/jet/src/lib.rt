@@ -3,7 +3,7 @@
 mod arith;
 mod four;
 mod functions;
-mod pairs;
+mod positions;
 mod terms;
 
 pub use crate::arith::add;

@@ -1,16 +1,14 @@
 -- `jet::arith::div_to` meets its contract. Assumes nothing.
-use mathlib.Core.Path.{_≡_, ap}
+use mathlib.Core.Path.{_≡_}
 use Prim.Native.Nat.{_-_, _≤_}
 use native.Mathlib.Omega.{arith}
 use native.Mathlib.Nat.{min-le-right}
 use Rattle.jet.specs.Positions.{positions}
 use Rattle.jet.specs.Coefficients.{build, cut, quotientAt, quotientOf}
+use Rattle.jet.proofs.Among.{least}
 use Rattle.jet.proofs.Build.{fill-start, fill-turn}
-use Rattle.jet.proofs.Rows.{fill-end-to}
-use Rattle.float.specs.Ops.{_⊘_}
-use Rattle.jet.specs.Coefficients.{at}
+use Rattle.jet.proofs.Rows.{quotient-row, fill-end-to}
 use Rattle.jet.proofs.Rules.{quotient-local}
-use lib.Ieee.{Float}
 use borrow.Author.Needs.{needs}
 use Rattle.jet.proofs.arith.div_to.Statement.{statement}
 use Rattle.jet.proofs.arith.div_to.Tie as tie
@@ -40,7 +38,7 @@ array-read-minus : tie.Need-array-read-minus Inv-loop μ-loop
 array-read-minus c = search needs
 
 minus-requires : tie.Need-minus-requires Inv-loop μ-loop
-minus-requires c κs = search needs
+minus-requires c κs = (search needs, least _)
 
 array-read-q : tie.Need-array-read-q Inv-loop μ-loop
 array-read-q c = search needs
@@ -58,12 +56,11 @@ loop-less : tie.Need-loop-less Inv-loop μ-loop
 loop-less c = search needs
 
 loop-again : tie.Need-loop-again Inv-loop μ-loop
-unfolding quotientAt
 loop-again c =
     let l = c .before .before .before .before in
     let x = l .before .before .before .before .before .args .a .c in
     let y = l .before .before .before .before .before .args .b .c in
-    (omega arith, l .loop .inv .1, fill-turn (quotientAt x y) (quotient-local x y) (l .loop .m) _ (l .loop .q) (omega arith) (l .loop .inv .2) (ap (λ (v : Float). v ⊘ at y 0) (c .minus .ensures)))
+    (omega arith, l .loop .inv .1, fill-turn (quotientAt x y) (quotient-local x y) (l .loop .m) _ (l .loop .q) (omega arith) (l .loop .inv .2) (quotient-row x y (l .loop .q) (l .loop .m) _ (c .minus .ensures)))
 
 returns-2 : tie.Need-returns-2 Inv-loop μ-loop
 unfolding quotientOf

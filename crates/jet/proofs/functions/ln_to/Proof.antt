@@ -9,6 +9,7 @@ use lib.Ieee.{Float}
 use Rattle.float.specs.Ops.{_⊗_}
 use Rattle.jet.specs.Positions.{positions, weightOf}
 use Rattle.jet.specs.Coefficients.{at, build, cut, logarithmAt, logarithmOf}
+use Rattle.jet.proofs.Among.{least}
 use Rattle.jet.proofs.Build.{fill-start, fill-turn}
 use Rattle.jet.proofs.Rules.{logarithm-local}
 use Rattle.jet.proofs.Rows.{logarithm-row, weighted-turn, length-filled, fill-end-to}
@@ -74,8 +75,11 @@ mul-minus c = search needs
 array-read-minus : tie.Need-array-read-minus Inv-loop μ-loop
 array-read-minus c = search needs
 
+next-requires : tie.Need-next-requires Inv-loop μ-loop
+next-requires c κs = (search needs, search needs, least _)
+
 minus-requires : tie.Need-minus-requires Inv-loop μ-loop
-minus-requires c κs = search needs
+minus-requires c κs = (search needs, c .next .ensures .1)
 
 array-read-v : tie.Need-array-read-v Inv-loop μ-loop
 array-read-v c = search needs
@@ -101,17 +105,17 @@ loop-less c = search needs
 loop-again : tie.Need-loop-again Inv-loop μ-loop
 unfolding logarithmAt
 loop-again c =
-    let s = c .before .before .before .before .before in
+    let s = c .before .before .before .before .before .before in
     let l = s .loop in
     let i = l .inv in
     let x = s .before .before .before .before .before .before .args .a .c in
-    let weight = c .before .before .before .weight .ensures in
+    let weight = c .before .before .before .before .weight .ensures in
     let long : length (l .l) ≡ positions = ap length (i .filled) ∙ length-filled (logarithmAt x) (l .m) (omega arith) in
     record {
       some = omega arith;
       under = omega arith;
       within = i .within;
-      filled = fill-turn (logarithmAt x) (logarithm-local x) (l .m) _ (l .l) (omega arith) (i .filled) (logarithm-row x (l .l) (l .wl) (l .m) _ _ (i .some) (i .weighted) weight (c .minus .ensures));
+      filled = fill-turn (logarithmAt x) (logarithm-local x) (l .m) _ (l .l) (omega arith) (i .filled) (logarithm-row x (l .l) (l .wl) (l .m) _ _ _ (i .some) (c .before .next .ensures) (i .weighted) weight (c .minus .ensures));
       sized = length-set (l .wl) (l .m) _ ∙ i .sized;
       weighted = weighted-turn (l .l) (l .wl) (l .m) _ _ (omega arith) (omega arith) weight (i .weighted);
     }
@@ -139,6 +143,7 @@ ln-to-spec =
     weight-requires
     mul-minus
     array-read-minus
+    next-requires
     minus-requires
     array-read-v
     mul-l

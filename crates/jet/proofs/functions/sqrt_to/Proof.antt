@@ -5,6 +5,7 @@ use native.Mathlib.Omega.{arith}
 use native.Mathlib.Nat.{min-le-right}
 use Rattle.jet.specs.Positions.{positions}
 use Rattle.jet.specs.Coefficients.{at, build, cut, rootAt, rootOf}
+use Rattle.jet.proofs.Among.{least}
 use Rattle.jet.proofs.Build.{fill-start, fill-turn}
 use Rattle.jet.proofs.Rows.{root-row, first-filled, fill-end-to}
 use Rattle.float.specs.Root.{root}
@@ -58,8 +59,11 @@ mul-minus c = search needs
 array-read-minus : tie.Need-array-read-minus Inv-loop μ-loop
 array-read-minus c = search needs
 
+next-requires : tie.Need-next-requires Inv-loop μ-loop
+next-requires c κs = (search needs, search needs, least _)
+
 minus-requires : tie.Need-minus-requires Inv-loop μ-loop
-minus-requires c κs = search needs
+minus-requires c κs = (search needs, c .next .ensures .1)
 
 mul-r : tie.Need-mul-r Inv-loop μ-loop
 mul-r c = search needs
@@ -76,10 +80,10 @@ loop-less c = search needs
 loop-again : tie.Need-loop-again Inv-loop μ-loop
 unfolding rootAt
 loop-again c =
-    let l = c .before .before .before .before in
+    let l = c .before .before .before .before .before in
     let x = l .before .before .before .before .before .before .args .a .c in
     let first : at (l .loop .r) 0 ≡ root (at x 0) = ap (λ (r : List Float). at r 0) (l .loop .inv .3) ∙ first-filled (rootAt x) (l .loop .m) (l .loop .inv .0) (omega arith) in
-    (omega arith, omega arith, l .loop .inv .2, fill-turn (rootAt x) (root-local x) (l .loop .m) _ (l .loop .r) (omega arith) (l .loop .inv .3) (root-row x (l .loop .r) (l .loop .m) _ _ (l .loop .inv .0) (c .minus .ensures) (l .before .sqrt .ensures ∙ sym first)))
+    (omega arith, omega arith, l .loop .inv .2, fill-turn (rootAt x) (root-local x) (l .loop .m) _ (l .loop .r) (omega arith) (l .loop .inv .3) (root-row x (l .loop .r) (l .loop .m) _ _ _ (l .loop .inv .0) (c .before .next .ensures) (c .minus .ensures) (l .before .sqrt .ensures ∙ sym first)))
 
 returns-3 : tie.Need-returns-3 Inv-loop μ-loop
 unfolding rootOf
@@ -104,6 +108,7 @@ sqrt-to-spec =
     loop-holds
     mul-minus
     array-read-minus
+    next-requires
     minus-requires
     mul-r
     array-write-r-2

@@ -1,50 +1,38 @@
 -- `jet::terms::plus` meets its contract. Assumes nothing.
-use mathlib.Core.Path.{_≡_, refl, sym, _∙_}
+use mathlib.Core.Path.{_≡_}
+use Prim.Native.Nat.{suc, _-_}
 use native.Mathlib.Omega.{arith}
-use Prim.Native.Nat.{_-_}
+use native.Mathlib.Nat.{sub-zero}
+use mathlib.Core.Bool.{true}
 use mathlib.Core.List.{foldl}
 use lib.ListN.{drop}
-use Rattle.jet.specs.Positions.{pairsOf}
-use Rattle.jet.proofs.Fold.{adding, fold-turn, fold-end}
+use Rattle.jet.specs.Positions.{notAbove, among, pairsOf}
+use Rattle.jet.proofs.Among.{least, no-larger, pairs-first}
+use Rattle.jet.proofs.Fold.{adding, step-then-term, fold-end}
 use borrow.Author.Needs.{needs}
 use Rattle.jet.proofs.terms.plus.Statement.{statement}
 use Rattle.jet.proofs.terms.plus.Tie as tie
 
 abbrev Inv-loop : tie.InvT-loop
-Inv-loop x a b m pairs start n s₀ t₀ s t = foldl (adding a b m) s (drop t (pairsOf m)) ≡ foldl (adding a b m) x (drop 1 (pairsOf m))
+Inv-loop x a b m s₀ p₀ s p = (notAbove p m ≡ true) × (foldl (adding a b m) s (among (m - p) (suc p) m) ≡ foldl (adding a b m) x (drop 1 (pairsOf m)))
 
 abbrev μ-loop : tie.MeasureT-loop
-μ-loop x a b m pairs start n s₀ t₀ s t = n - t
-
-plus-e0-requires : tie.Need-plus-e0-requires Inv-loop μ-loop
-plus-e0-requires c κs = search needs
-
-returns : tie.Need-returns Inv-loop μ-loop
-returns c = c .plus-e0 .ensures
-
-table-requires : tie.Need-table-requires Inv-loop μ-loop
-table-requires c κs = search needs
-
-row-requires : tie.Need-row-requires Inv-loop μ-loop
-row-requires c κs = search needs
-
-count-requires : tie.Need-count-requires Inv-loop μ-loop
-count-requires c κs = search needs
+μ-loop x a b m s₀ p₀ s p = m - p
 
 loop-holds : tie.Need-loop-holds Inv-loop μ-loop
-loop-holds c = refl
+loop-holds c = (least (c .args .m), rw (pairs-first (c .args .m), sub-zero))
 
-position-requires : tie.Need-position-requires Inv-loop μ-loop
-position-requires c κs = search needs
+next-requires : tie.Need-next-requires Inv-loop μ-loop
+next-requires c κs = let l = c .before in (search needs, search needs, l .loop .inv .0)
 
 mul-s : tie.Need-mul-s Inv-loop μ-loop
-mul-s c = search needs
+mul-s c = omega (arith, no-larger _ _ (c .next .ensures .1))
 
 element-copy-out-s : tie.Need-element-copy-out-s Inv-loop μ-loop
-element-copy-out-s c = search needs
+element-copy-out-s c = omega (arith, no-larger _ _ (c .next .ensures .1))
 
 sub-s : tie.Need-sub-s Inv-loop μ-loop
-sub-s c = search needs
+sub-s c = omega (arith, no-larger _ _ (c .before .next .ensures .1))
 
 mul-s-2 : tie.Need-mul-s-2 Inv-loop μ-loop
 mul-s-2 c = search needs
@@ -52,23 +40,21 @@ mul-s-2 c = search needs
 element-copy-out-s-2 : tie.Need-element-copy-out-s-2 Inv-loop μ-loop
 element-copy-out-s-2 c = search needs
 
-add-t : tie.Need-add-t Inv-loop μ-loop
-add-t c = search needs
-
 loop-less : tie.Need-loop-less Inv-loop μ-loop
-loop-less c = search needs
+loop-less c = omega (arith, c .before .before .next .ensures .0)
 
 loop-again : tie.Need-loop-again Inv-loop μ-loop
 loop-again c =
-    let l = c .before .before .before .before .before in
-    let a = l .before .before .before .before .before .args in
-    fold-turn (adding (a .a .now) (a .b .now) (a .m)) (pairsOf (a .m)) (l .loop .t) _ (l .loop .s) _ (omega arith) (c .before .before .position .ensures .0) (l .loop .inv)
+    let l = c .before .before .before .before in
+    let a = l .before .args in
+    let n = c .before .before .next .ensures in
+    (n .1, step-then-term (adding (a .a .now) (a .b .now) (a .m)) (a .m) _ (l .loop .p) _ (l .loop .s) n (l .loop .inv .1))
 
-returns-2 : tie.Need-returns-2 Inv-loop μ-loop
-returns-2 c =
+returns : tie.Need-returns Inv-loop μ-loop
+returns c =
     let l = c .before in
-    let a = l .before .before .before .before .before .args in
-    sym (fold-end (adding (a .a .now) (a .b .now) (a .m)) (pairsOf (a .m)) (l .loop .t) (l .loop .s) (omega arith)) ∙ l .loop .inv
+    let a = l .before .args in
+    fold-end (adding (a .a .now) (a .b .now) (a .m)) (a .m) _ (l .loop .p) (suc (l .loop .p)) (l .loop .s) (omega arith) (l .loop .inv .1)
 
 pub plus-spec : {M : Type 1} → statement M
 plus-spec =
@@ -76,19 +62,13 @@ plus-spec =
     (tie.spec
     Inv-loop
     μ-loop
-    plus-e0-requires
-    returns
-    table-requires
-    row-requires
-    count-requires
     loop-holds
-    position-requires
+    next-requires
     mul-s
     element-copy-out-s
     sub-s
     mul-s-2
     element-copy-out-s-2
-    add-t
     loop-less
     loop-again
-    returns-2)
+    returns)
