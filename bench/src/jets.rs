@@ -25,7 +25,7 @@ type Operation = fn(&Coefficients, &Coefficients, &mut Coefficients);
 // The rules of oracle/src/jet.rs for the first n coefficients.
 mod first {
     use super::{Coefficients, SIZE};
-    use oracle::jet::below;
+    use oracle::jet::for_each_below;
 
     fn degree(p: usize) -> f64 {
         (p % 4 + p / 4 % 2 + p / 8 % 2 + p / 16) as f64
@@ -35,9 +35,11 @@ mod first {
         let mut c = [0.0; SIZE];
         for m in 0..n.min(SIZE) {
             let mut sum = a[0] * b[m];
-            for &p in &below(m)[1..] {
-                sum += a[p] * b[m - p];
-            }
+            for_each_below(m, |p| {
+                if p != 0 {
+                    sum += a[p] * b[m - p];
+                }
+            });
             c[m] = sum;
         }
         c
@@ -46,11 +48,12 @@ mod first {
     pub fn div(n: usize, a: &Coefficients, b: &Coefficients) -> Coefficients {
         let mut q = [0.0; SIZE];
         for m in 0..n.min(SIZE) {
-            let all = below(m);
             let mut rest = a[m];
-            for &p in &all[..all.len() - 1] {
-                rest -= q[p] * b[m - p];
-            }
+            for_each_below(m, |p| {
+                if p != m {
+                    rest -= q[p] * b[m - p];
+                }
+            });
             q[m] = rest / b[0];
         }
         q
@@ -60,11 +63,12 @@ mod first {
         let mut r = [0.0; SIZE];
         r[0] = a[0].sqrt();
         for m in 1..n.min(SIZE) {
-            let all = below(m);
             let mut rest = a[m];
-            for &p in &all[1..all.len() - 1] {
-                rest -= r[p] * r[m - p];
-            }
+            for_each_below(m, |p| {
+                if p != 0 && p != m {
+                    rest -= r[p] * r[m - p];
+                }
+            });
             r[m] = rest / (2.0 * r[0]);
         }
         r
@@ -74,11 +78,12 @@ mod first {
         let mut l = [0.0; SIZE];
         l[0] = oracle::float::ln(a[0]);
         for m in 1..n.min(SIZE) {
-            let all = below(m);
             let mut rest = degree(m) * a[m];
-            for &p in &all[1..all.len() - 1] {
-                rest -= (degree(p) * l[p]) * a[m - p];
-            }
+            for_each_below(m, |p| {
+                if p != 0 && p != m {
+                    rest -= (degree(p) * l[p]) * a[m - p];
+                }
+            });
             l[m] = rest / (degree(m) * a[0]);
         }
         l

@@ -21,67 +21,33 @@ pub type Jet = JetOf<SIZE>;
 pub type Jet16 = JetOf<16>;
 
 /// The degrees in e0, e1, e2 and e3 of a position.
-const fn parts(p: usize) -> [usize; 4] {
+fn parts(p: usize) -> [usize; 4] {
     [p % 4, p / 4 % 2, p / 8 % 2, p / 16]
 }
 
-/// p is not above m in any mark.
-const fn is_below(p: usize, m: usize) -> bool {
-    let (a, b) = (parts(p), parts(m));
-    a[0] <= b[0] && a[1] <= b[1] && a[2] <= b[2] && a[3] <= b[3]
-}
-
-/// The positions below one position, ascending.
-#[derive(Clone, Copy)]
-struct Below {
-    len: usize,
-    p: [usize; SIZE],
-}
-
-const fn positions_below(m: usize) -> Below {
-    let mut below = Below {
-        len: 0,
-        p: [0; SIZE],
-    };
-    let mut p = 0;
-    while p < SIZE {
-        if is_below(p, m) {
-            below.p[below.len] = p;
-            below.len += 1;
+/// Calls f with each position p not above m in any mark, ascending: 0 first, m last.
+#[inline]
+pub fn for_each_below(m: usize, mut f: impl FnMut(usize)) {
+    let [i, j, k, l] = parts(m);
+    // half-open ranges: loops over `0..=l` and so on are slower
+    for e3 in 0..l + 1 {
+        for e2 in 0..k + 1 {
+            for e1 in 0..j + 1 {
+                for e0 in 0..i + 1 {
+                    f(e0 + 4 * e1 + 8 * e2 + 16 * e3);
+                }
+            }
         }
-        p += 1;
     }
-    below
 }
 
-const fn all_positions_below() -> [Below; SIZE] {
-    let mut all = [Below {
-        len: 0,
-        p: [0; SIZE],
-    }; SIZE];
-    let mut m = 0;
-    while m < SIZE {
-        all[m] = positions_below(m);
-        m += 1;
-    }
-    all
-}
-
-static BELOW: [Below; SIZE] = all_positions_below();
-
-/// The positions p not above m in any mark, ascending: 0 first, m last.
-pub fn below(m: usize) -> &'static [usize] {
-    &BELOW[m].p[..BELOW[m].len]
-}
-
-/// The positions below m other than 0 and m, ascending.
-fn between(m: usize) -> &'static [usize] {
-    let all = below(m);
-    if all.len() > 2 {
-        &all[1..all.len() - 1]
-    } else {
-        &[]
-    }
+/// The same without 0 and m.
+fn for_each_between(m: usize, mut f: impl FnMut(usize)) {
+    for_each_below(m, |p| {
+        if p != 0 && p != m {
+            f(p);
+        }
+    });
 }
 
 /// The degree sum of a position.
@@ -164,9 +130,7 @@ impl<const S: usize> JetOf<S> {
         r[0] = a[0].sqrt();
         for m in 1..S {
             let mut rest = a[m];
-            for &p in between(m) {
-                rest -= r[p] * r[m - p];
-            }
+            for_each_between(m, |p| rest -= r[p] * r[m - p]);
             r[m] = rest / (2.0 * r[0]);
         }
         JetOf { c: r }
@@ -178,9 +142,7 @@ impl<const S: usize> JetOf<S> {
         l[0] = float::ln(a[0]);
         for m in 1..S {
             let mut rest = degree(m) * a[m];
-            for &p in between(m) {
-                rest -= (degree(p) * l[p]) * a[m - p];
-            }
+            for_each_between(m, |p| rest -= (degree(p) * l[p]) * a[m - p]);
             l[m] = rest / (degree(m) * a[0]);
         }
         JetOf { c: l }
@@ -230,14 +192,18 @@ impl<const S: usize> Neg for JetOf<S> {
 
 impl<const S: usize> Mul for JetOf<S> {
     type Output = Self;
+    // not inlined: a copy in every caller is slower
+    #[inline(never)]
     fn mul(self, rhs: Self) -> Self {
         let (a, b) = (&self.c, &rhs.c);
         let mut c = [0.0; S];
         for m in 0..S {
             let mut sum = a[0] * b[m];
-            for &p in &below(m)[1..] {
-                sum += a[p] * b[m - p];
-            }
+            for_each_below(m, |p| {
+                if p != 0 {
+                    sum += a[p] * b[m - p];
+                }
+            });
             c[m] = sum;
         }
         JetOf { c }
@@ -250,11 +216,12 @@ impl<const S: usize> Div for JetOf<S> {
         let (a, b) = (&self.c, &rhs.c);
         let mut q = [0.0; S];
         for m in 0..S {
-            let all = below(m);
             let mut rest = a[m];
-            for &p in &all[..all.len() - 1] {
-                rest -= q[p] * b[m - p];
-            }
+            for_each_below(m, |p| {
+                if p != m {
+                    rest -= q[p] * b[m - p];
+                }
+            });
             q[m] = rest / b[0];
         }
         JetOf { c: q }

@@ -1,7 +1,7 @@
 //! Jets against known series and against each other, in 32 positions and in the 16 without e3.
 
 use oracle::float::bits;
-use oracle::jet::{below, SIZE};
+use oracle::jet::{for_each_below, SIZE};
 use oracle::random::Rng;
 use oracle::vectors::{jet_cases, jet_operation, OPERATIONS};
 use oracle::{Jet, Jet16, JetOf};
@@ -24,6 +24,35 @@ fn sparse(entries: &[(usize, f64)]) -> [f64; SIZE] {
     c
 }
 
+/// Coefficients up to 1 in size after a positive one.
+fn ordinary_jet(rng: &mut Rng) -> Jet {
+    let mut c = [0.0; SIZE];
+    c.fill_with(|| rng.between(-1.0, 1.0));
+    c[0] = rng.between(0.7, 3.0);
+    Jet { c }
+}
+
+/// The first sixteen coefficients.
+fn without_e3(j: Jet) -> Jet16 {
+    Jet16 {
+        c: std::array::from_fn(|m| j.c[m]),
+    }
+}
+
+/// The positions below m as the operations go through them.
+fn below(m: usize) -> Vec<usize> {
+    let mut all = Vec::new();
+    for_each_below(m, |p| all.push(p));
+    all
+}
+
+/// The same by a test of every position.
+fn not_above(m: usize) -> Vec<usize> {
+    let parts = |p: usize| [p % 4, p % 8 / 4, p % 16 / 8, p / 16];
+    let is_below = |p: &usize| (0..4).all(|i| parts(*p)[i] <= parts(m)[i]);
+    (0..SIZE).filter(is_below).collect()
+}
+
 #[test]
 fn positions() {
     let pairs: usize = (0..16).map(|m| below(m).len()).sum();
@@ -39,12 +68,53 @@ fn positions() {
     assert_eq!(below(21), [0, 1, 4, 5, 16, 17, 20, 21]);
     assert_eq!(below(24), [0, 8, 16, 24]);
     assert_eq!(below(31), (0..32).collect::<Vec<_>>());
-    // by the parts of both, and so that m - p is a position below m too
+    // m - p is a position below m too
     for m in 0..SIZE {
-        let parts = |p: usize| [p % 4, p % 8 / 4, p % 16 / 8, p / 16];
-        let is_below = |p: &usize| (0..4).all(|i| parts(*p)[i] <= parts(m)[i]);
-        assert_eq!(below(m), (0..SIZE).filter(is_below).collect::<Vec<_>>());
+        assert_eq!(below(m), not_above(m));
         assert!(below(m).iter().all(|p| below(m).contains(&(m - p))));
+    }
+}
+
+/// Product, quotient, root and logarithm as document 01 words them, over `not_above`.
+fn by_the_rules<const S: usize>(a: JetOf<S>, b: JetOf<S>) -> [JetOf<S>; 4] {
+    let (a, b) = (&a.c, &b.c);
+    let [mut c, mut q, mut r, mut l] = [[0.0; S]; 4];
+    let w = |p: usize| degrees(p).1 as f64;
+    for m in 0..S {
+        let all = not_above(m);
+        let before = || all.iter().copied().filter(|&p| p != m);
+        let between = || before().filter(|&p| p != 0);
+        let terms = all.iter().map(|&p| a[p] * b[m - p]);
+        c[m] = terms.reduce(|sum, term| sum + term).unwrap();
+        q[m] = before().fold(a[m], |rest, p| rest - q[p] * b[m - p]) / b[0];
+        (r[m], l[m]) = if m == 0 {
+            (a[0].sqrt(), oracle::float::ln(a[0]))
+        } else {
+            let root = between().fold(a[m], |rest, p| rest - r[p] * r[m - p]);
+            let ln = between().fold(w(m) * a[m], |rest, p| rest - (w(p) * l[p]) * a[m - p]);
+            (root / (2.0 * r[0]), ln / (w(m) * a[0]))
+        };
+    }
+    [c, q, r, l].map(|c| JetOf { c })
+}
+
+/// The operations have the bits of the rules, in 32 positions and in 16, on ordinary and special operands.
+#[test]
+fn operations_follow_the_rules() {
+    fn compare<const S: usize>(a: JetOf<S>, b: JetOf<S>) {
+        let found = [a * b, a / b, a.sqrt(), a.ln()];
+        let names = ["product", "quotient", "root", "logarithm"];
+        for ((found, expected), name) in found.iter().zip(by_the_rules(a, b)).zip(names) {
+            let (found, expected) = (found.c.map(bits), expected.c.map(bits));
+            assert_eq!(found, expected, "{name} of {a:?} and {b:?}");
+        }
+    }
+    let mut rng = Rng::new(13);
+    let ordinary = (0..2000).map(|_| (ordinary_jet(&mut rng), ordinary_jet(&mut rng)));
+    let cases = jet_cases(3, 12_000).map(|case| (case.a, case.b));
+    for (a, b) in ordinary.chain(cases) {
+        compare(a, b);
+        compare(without_e3(a), without_e3(b));
     }
 }
 
@@ -181,13 +251,7 @@ fn marks_of_degree_1_are_alike() {
     };
     let mut rng = Rng::new(5);
     for _ in 0..500 {
-        let mut jet = || {
-            let mut c = [0.0; SIZE];
-            c.fill_with(|| rng.between(-1.0, 1.0));
-            c[0] = rng.between(0.7, 3.0);
-            Jet { c }
-        };
-        let (a, b) = (jet(), jet());
+        let (a, b) = (ordinary_jet(&mut rng), ordinary_jet(&mut rng));
         for operation in 0..OPERATIONS.len() as u8 {
             let whole = jet_operation(operation, a, b).unwrap();
             for (x, y) in [(4, 16), (8, 16)] {
@@ -210,13 +274,7 @@ fn marks_of_degree_1_are_alike() {
 fn quotient_root_and_logarithm_undo() {
     let mut rng = Rng::new(1);
     for _ in 0..2000 {
-        let mut jet = || {
-            let mut c = [0.0; SIZE];
-            c.fill_with(|| rng.between(-1.0, 1.0));
-            c[0] = rng.between(0.7, 3.0);
-            Jet { c }
-        };
-        let (a, b) = (jet(), jet());
+        let (a, b) = (ordinary_jet(&mut rng), ordinary_jet(&mut rng));
         let close = |x: Jet, y: Jet, tolerance: f64| {
             for m in 0..SIZE {
                 assert!((x.c[m] - y.c[m]).abs() < tolerance, "{x:?} {y:?} at {m}");
@@ -255,11 +313,8 @@ fn lower<const S: usize>(j: JetOf<S>) -> [u64; 16] {
 #[test]
 fn upper_sixteen_change_nothing_below() {
     let mut rng = Rng::new(9);
-    let cut = |j: Jet| Jet16 {
-        c: std::array::from_fn(|m| j.c[m]),
-    };
     for case in jet_cases(2, 24_000) {
-        let (a, b) = (cut(case.a), cut(case.b));
+        let (a, b) = (without_e3(case.a), without_e3(case.b));
         let sixteen = match case.operation {
             0 => a + b,
             1 => a - b,

@@ -77,10 +77,13 @@ cut-min n a h = go (leb n positions) refl
         let z : positions - n ≡ 0 = omega arith in
         rw (min-eq-right g, z, take-all positions a (rw h (omega arith)), take-all n a (rw h g))
 
--- a loop up to the lesser of n and the number of positions is at its end
-pub fill-end-to : (f : List Float → ℕ → Float) (n m : ℕ) (c : List Float) → m ≡ min n positions → c ≡ cut m (build f positions) → c ≡ cut n (build f positions)
-fill-end-to f n m c h e = e ∙ ap (λ (k : ℕ). cut k (build f positions)) h ∙ cut-min n (build f positions) (length-build f positions)
+-- a loop up to `end` is at its end
+pub filled : (f : List Float → ℕ → Float) (end m : ℕ) (c : List Float) → m ≡ end → c ≡ cut m (build f positions) → c ≡ cut end (build f positions)
+filled f end m c h e = e ∙ ap (λ (k : ℕ). cut k (build f positions)) h
 
--- and one over every position
+-- one up to the lesser of n and the number of positions, and one over every position
+pub cut-at-most : (f : List Float → ℕ → Float) (n k : ℕ) (c : List Float) → k ≡ min n positions → c ≡ cut k (build f positions) → c ≡ cut n (build f positions)
+cut-at-most f n k c h e = filled f (min n positions) k c h e ∙ cut-min n (build f positions) (length-build f positions)
+
 pub cut-full : (f : List Float → ℕ → Float) (c : List Float) → c ≡ cut positions (build f positions) → c ≡ build f positions
 cut-full f c e = e ∙ cut-all (build f positions) (length-build f positions)

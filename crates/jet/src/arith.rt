@@ -1,5 +1,5 @@
 // Numbers as jets, and the arithmetic of jets. A function `.._to` works out the coefficients at positions below n
-// and leaves +0 at the others.
+// and leaves +0 at the others; the loop that does so stands apart, since n = 4 has a form without one.
 ghost use mathlib.Core.Path.{_≡_};
 ghost use Prim.Native.Nat.{_≤_, _<_, min};
 ghost use mathlib.Core.List.{[]};
@@ -96,13 +96,11 @@ pub fn at_most(n: usize) -> usize
     if n < 32 { n } else { 32 }
 }
 
-pub fn mul_to(n: usize, a: Jet, b: Jet) -> Jet
-    ensures { λ r. ⌜ r .c ≡ cut n (productOf (a .c) (b .c)) ⌝ }
+// The coefficients of a product at positions below `end`.
+fn product(end: usize, a: Jet, b: Jet) -> Jet
+    requires { ⌜ end ≤ positions ⌝ }
+    ensures { λ r. ⌜ r .c ≡ cut end (productOf (a .c) (b .c)) ⌝ }
 {
-    if n == 4 {
-        return mul_4(a, b);
-    }
-    let end = at_most(n);
     let x = a.c;
     let y = b.c;
     let mut c = [0.0; 32];
@@ -114,19 +112,26 @@ pub fn mul_to(n: usize, a: Jet, b: Jet) -> Jet
     Jet { c }
 }
 
+pub fn mul_to(n: usize, a: Jet, b: Jet) -> Jet
+    ensures { λ r. ⌜ r .c ≡ cut n (productOf (a .c) (b .c)) ⌝ }
+{
+    if n == 4 {
+        return mul_4(a, b);
+    }
+    product(at_most(n), a, b)
+}
+
 pub fn mul(a: Jet, b: Jet) -> Jet
     ensures { λ r. ⌜ r .c ≡ productOf (a .c) (b .c) ⌝ }
 {
-    mul_to(32, a, b)
+    product(32, a, b)
 }
 
-pub fn div_to(n: usize, a: Jet, b: Jet) -> Jet
-    ensures { λ r. ⌜ r .c ≡ cut n (quotientOf (a .c) (b .c)) ⌝ }
+// The coefficients of a quotient at positions below `end`.
+fn quotient(end: usize, a: Jet, b: Jet) -> Jet
+    requires { ⌜ end ≤ positions ⌝ }
+    ensures { λ r. ⌜ r .c ≡ cut end (quotientOf (a .c) (b .c)) ⌝ }
 {
-    if n == 4 {
-        return div_4(a, b);
-    }
-    let end = at_most(n);
     let x = a.c;
     let y = b.c;
     let mut q = [0.0; 32];
@@ -138,10 +143,19 @@ pub fn div_to(n: usize, a: Jet, b: Jet) -> Jet
     Jet { c: q }
 }
 
+pub fn div_to(n: usize, a: Jet, b: Jet) -> Jet
+    ensures { λ r. ⌜ r .c ≡ cut n (quotientOf (a .c) (b .c)) ⌝ }
+{
+    if n == 4 {
+        return div_4(a, b);
+    }
+    quotient(at_most(n), a, b)
+}
+
 pub fn div(a: Jet, b: Jet) -> Jet
     ensures { λ r. ⌜ r .c ≡ quotientOf (a .c) (b .c) ⌝ }
 {
-    div_to(32, a, b)
+    quotient(32, a, b)
 }
 
 // 1 over a.

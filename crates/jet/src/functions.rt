@@ -1,5 +1,7 @@
 // The root and the logarithm of a jet.
 ghost use mathlib.Core.Path.{_≡_};
+ghost use Prim.Native.Nat.{_≤_};
+ghost use Rattle.jet.specs.Positions.{positions};
 ghost use Rattle.jet.specs.Coefficients.{rootOf, logarithmOf, cut};
 use crate::Jet;
 use crate::arith::at_most;
@@ -9,13 +11,11 @@ use crate::positions::next;
 use crate::terms::minus;
 use crate::terms::weight;
 
-pub fn sqrt_to(n: usize, a: Jet) -> Jet
-    ensures { λ r. ⌜ r .c ≡ cut n (rootOf (a .c)) ⌝ }
+// The coefficients of a root at positions below `end`.
+fn root(end: usize, a: Jet) -> Jet
+    requires { ⌜ end ≤ positions ⌝ }
+    ensures { λ r. ⌜ r .c ≡ cut end (rootOf (a .c)) ⌝ }
 {
-    if n == 4 {
-        return sqrt_4(a);
-    }
-    let end = at_most(n);
     let x = a.c;
     let mut r = [0.0; 32];
     if end == 0 {
@@ -31,20 +31,26 @@ pub fn sqrt_to(n: usize, a: Jet) -> Jet
     Jet { c: r }
 }
 
+pub fn sqrt_to(n: usize, a: Jet) -> Jet
+    ensures { λ r. ⌜ r .c ≡ cut n (rootOf (a .c)) ⌝ }
+{
+    if n == 4 {
+        return sqrt_4(a);
+    }
+    root(at_most(n), a)
+}
+
 pub fn sqrt(a: Jet) -> Jet
     ensures { λ r. ⌜ r .c ≡ rootOf (a .c) ⌝ }
 {
-    sqrt_to(32, a)
+    root(32, a)
 }
 
-// wl holds the coefficients of the logarithm, each times its weight.
-pub fn ln_to(n: usize, a: Jet) -> Jet
-    ensures { λ r. ⌜ r .c ≡ cut n (logarithmOf (a .c)) ⌝ }
+// The coefficients of a logarithm at positions below `end`. wl holds them, each times its weight.
+fn logarithm(end: usize, a: Jet) -> Jet
+    requires { ⌜ end ≤ positions ⌝ }
+    ensures { λ r. ⌜ r .c ≡ cut end (logarithmOf (a .c)) ⌝ }
 {
-    if n == 4 {
-        return ln_4(a);
-    }
-    let end = at_most(n);
     let x = a.c;
     let mut l = [0.0; 32];
     let mut wl = [0.0; 32];
@@ -63,8 +69,17 @@ pub fn ln_to(n: usize, a: Jet) -> Jet
     Jet { c: l }
 }
 
+pub fn ln_to(n: usize, a: Jet) -> Jet
+    ensures { λ r. ⌜ r .c ≡ cut n (logarithmOf (a .c)) ⌝ }
+{
+    if n == 4 {
+        return ln_4(a);
+    }
+    logarithm(at_most(n), a)
+}
+
 pub fn ln(a: Jet) -> Jet
     ensures { λ r. ⌜ r .c ≡ logarithmOf (a .c) ⌝ }
 {
-    ln_to(32, a)
+    logarithm(32, a)
 }

@@ -5,12 +5,12 @@ use borrow.Author.Needs.{needs}
 use Rattle.jet.proofs.arith.div.Statement.{statement}
 use Rattle.jet.proofs.arith.div.Tie as tie
 
-div-to-requires : tie.Need-div-to-requires
-div-to-requires c κs = search needs
+quotient-requires : tie.Need-quotient-requires
+quotient-requires c κs = search needs
 
 returns : tie.Need-returns
 unfolding quotientOf
-returns c = cut-full (quotientAt (c .before .args .a .c) (c .before .args .b .c)) _ (c .div-to .ensures)
+returns c = cut-full (quotientAt (c .before .args .a .c) (c .before .args .b .c)) _ (c .quotient .ensures)
 
 pub div-spec : {M : Type 1} → statement M
-div-spec = tie.close (tie.spec div-to-requires returns)
+div-spec = tie.close (tie.spec quotient-requires returns)

@@ -5,12 +5,12 @@ use borrow.Author.Needs.{needs}
 use Rattle.jet.proofs.arith.mul.Statement.{statement}
 use Rattle.jet.proofs.arith.mul.Tie as tie
 
-mul-to-requires : tie.Need-mul-to-requires
-mul-to-requires c κs = search needs
+product-requires : tie.Need-product-requires
+product-requires c κs = search needs
 
 returns : tie.Need-returns
 unfolding productOf
-returns c = cut-full (productAt (c .before .args .a .c) (c .before .args .b .c)) _ (c .mul-to .ensures)
+returns c = cut-full (productAt (c .before .args .a .c) (c .before .args .b .c)) _ (c .product .ensures)
 
 pub mul-spec : {M : Type 1} → statement M
-mul-spec = tie.close (tie.spec mul-to-requires returns)
+mul-spec = tie.close (tie.spec product-requires returns)

@@ -1,89 +1,26 @@
 -- `jet::arith::mul_to` meets its contract. Assumes nothing.
-use mathlib.Core.Path.{_≡_, refl, _∙_}
-use Prim.Native.Nat.{_-_, _≤_}
-use native.Mathlib.Omega.{arith}
 use native.Mathlib.Nat.{min-le-right}
-use Rattle.jet.specs.Positions.{positions}
-use Rattle.jet.specs.Coefficients.{build, cut, productAt, productOf}
-use Rattle.jet.proofs.Build.{fill-start, fill-turn}
-use Rattle.jet.proofs.Rows.{product-row, fill-end-to}
+use Rattle.jet.specs.Coefficients.{productAt, productOf}
+use Rattle.jet.proofs.Rows.{cut-at-most}
 use borrow.Author.Needs.{needs}
 use Rattle.jet.proofs.arith.mul_to.Statement.{statement}
 use Rattle.jet.proofs.arith.mul_to.Tie as tie
 
-abbrev Inv-loop : tie.InvT-loop
-Inv-loop n end x y c₀ m₀ c m = (m ≤ end) × (end ≤ positions) × (c ≡ cut m (build (productAt x y) positions))
-
-abbrev μ-loop : tie.MeasureT-loop
-μ-loop n end x y c₀ m₀ c m = end - m
-
-mul-4-requires : tie.Need-mul-4-requires Inv-loop μ-loop
+mul-4-requires : tie.Need-mul-4-requires
 mul-4-requires c κs = search needs
 
-returns : tie.Need-returns Inv-loop μ-loop
+returns : tie.Need-returns
 returns c = rw (c .before .if1 .taken) (c .mul-4 .ensures)
 
-at-most-requires : tie.Need-at-most-requires Inv-loop μ-loop
+at-most-requires : tie.Need-at-most-requires
 at-most-requires c κs = search needs
 
-loop-holds : tie.Need-loop-holds Inv-loop μ-loop
-loop-holds c = (omega arith, rw (c .before .before .at-most .ensures) (min-le-right _ _), fill-start _)
+product-requires : tie.Need-product-requires
+product-requires c κs = rw (c .at-most .ensures) (min-le-right _ _)
 
-array-read-plus : tie.Need-array-read-plus Inv-loop μ-loop
-array-read-plus c = search needs
-
-mul-plus : tie.Need-mul-plus Inv-loop μ-loop
-mul-plus c = search needs
-
-array-read-plus-2 : tie.Need-array-read-plus-2 Inv-loop μ-loop
-array-read-plus-2 c = search needs
-
-plus-requires : tie.Need-plus-requires Inv-loop μ-loop
-plus-requires c κs = search needs
-
-mul-c : tie.Need-mul-c Inv-loop μ-loop
-mul-c c = search needs
-
-array-write-c : tie.Need-array-write-c Inv-loop μ-loop
-array-write-c c = search needs
-
-add-m : tie.Need-add-m Inv-loop μ-loop
-add-m c = search needs
-
-loop-less : tie.Need-loop-less Inv-loop μ-loop
-loop-less c = search needs
-
-loop-again : tie.Need-loop-again Inv-loop μ-loop
-unfolding productAt
-loop-again c =
-    let l = c .before .before .before .before in
-    let x = l .before .before .before .before .before .args .a .c in
-    let y = l .before .before .before .before .before .args .b .c in
-    (omega arith, l .loop .inv .1, fill-turn (productAt x y) (λ m c d h. refl) (l .loop .m) _ (l .loop .c) (omega arith) (l .loop .inv .2) (c .plus .ensures ∙ product-row x y (l .loop .c) (l .loop .m)))
-
-returns-2 : tie.Need-returns-2 Inv-loop μ-loop
+returns-2 : tie.Need-returns-2
 unfolding productOf
-returns-2 c =
-    let s = c .before .before .before .before .before .before in
-    fill-end-to (productAt (s .args .a .c) (s .args .b .c)) (s .args .n) (c .before .loop .m) _ (omega (arith, c .before .before .before .before .at-most .ensures)) (c .before .loop .inv .2)
+returns-2 c = let s = c .before .before .before in cut-at-most (productAt (s .args .a .c) (s .args .b .c)) (s .args .n) (c .before .at-most .result) _ (c .before .at-most .ensures) (c .product .ensures)
 
 pub mul-to-spec : {M : Type 1} → statement M
-mul-to-spec =
-    tie.close
-    (tie.spec
-    Inv-loop
-    μ-loop
-    mul-4-requires
-    returns
-    at-most-requires
-    loop-holds
-    array-read-plus
-    mul-plus
-    array-read-plus-2
-    plus-requires
-    mul-c
-    array-write-c
-    add-m
-    loop-less
-    loop-again
-    returns-2)
+mul-to-spec = tie.close (tie.spec mul-4-requires returns at-most-requires product-requires returns-2)

@@ -5,12 +5,12 @@ use borrow.Author.Needs.{needs}
 use Rattle.jet.proofs.functions.ln.Statement.{statement}
 use Rattle.jet.proofs.functions.ln.Tie as tie
 
-ln-to-requires : tie.Need-ln-to-requires
-ln-to-requires c κs = search needs
+logarithm-requires : tie.Need-logarithm-requires
+logarithm-requires c κs = search needs
 
 returns : tie.Need-returns
 unfolding logarithmOf
-returns c = cut-full (logarithmAt (c .before .args .a .c)) _ (c .ln-to .ensures)
+returns c = cut-full (logarithmAt (c .before .args .a .c)) _ (c .logarithm .ensures)
 
 pub ln-spec : {M : Type 1} → statement M
-ln-spec = tie.close (tie.spec ln-to-requires returns)
+ln-spec = tie.close (tie.spec logarithm-requires returns)

@@ -5,12 +5,12 @@ use borrow.Author.Needs.{needs}
 use Rattle.jet.proofs.functions.sqrt.Statement.{statement}
 use Rattle.jet.proofs.functions.sqrt.Tie as tie
 
-sqrt-to-requires : tie.Need-sqrt-to-requires
-sqrt-to-requires c κs = search needs
+root-requires : tie.Need-root-requires
+root-requires c κs = search needs
 
 returns : tie.Need-returns
 unfolding rootOf
-returns c = cut-full (rootAt (c .before .args .a .c)) _ (c .sqrt-to .ensures)
+returns c = cut-full (rootAt (c .before .args .a .c)) _ (c .root .ensures)
 
 pub sqrt-spec : {M : Type 1} → statement M
-sqrt-spec = tie.close (tie.spec sqrt-to-requires returns)
+sqrt-spec = tie.close (tie.spec root-requires returns)
