@@ -1,5 +1,5 @@
 // Numbers as jets, and the arithmetic of jets. A function `.._to` works out the coefficients at positions below n
-// and leaves +0 at the others; the loop that does so stands apart, since n = 4 has a form without one.
+// and leaves +0 at the others. Its loop stands apart: n = 4 has a form without one, which then copies no jet for it.
 ghost use mathlib.Core.Path.{_≡_};
 ghost use Prim.Native.Nat.{_≤_, _<_, min};
 ghost use mathlib.Core.List.{[]};
@@ -97,16 +97,14 @@ pub fn at_most(n: usize) -> usize
 }
 
 // The coefficients of a product at positions below `end`.
-fn product(end: usize, a: Jet, b: Jet) -> Jet
+fn product(end: usize, x: &[f64; 32], y: &[f64; 32]) -> Jet
     requires { ⌜ end ≤ positions ⌝ }
-    ensures { λ r. ⌜ r .c ≡ cut end (productOf (a .c) (b .c)) ⌝ }
+    ensures { λ r. ⌜ r .c ≡ cut end (productOf (now (x .entry)) (now (y .entry))) ⌝ }
 {
-    let x = a.c;
-    let y = b.c;
     let mut c = [0.0; 32];
     let mut m: usize = 0;
     while m < end {
-        c[m] = plus(x[0] * y[m], &x, &y, m);
+        c[m] = plus(x[0] * y[m], x, y, m);
         m += 1;
     }
     Jet { c }
@@ -118,26 +116,28 @@ pub fn mul_to(n: usize, a: Jet, b: Jet) -> Jet
     if n == 4 {
         return mul_4(a, b);
     }
-    product(at_most(n), a, b)
+    let x = a.c;
+    let y = b.c;
+    product(at_most(n), &x, &y)
 }
 
 pub fn mul(a: Jet, b: Jet) -> Jet
     ensures { λ r. ⌜ r .c ≡ productOf (a .c) (b .c) ⌝ }
 {
-    product(32, a, b)
+    let x = a.c;
+    let y = b.c;
+    product(32, &x, &y)
 }
 
 // The coefficients of a quotient at positions below `end`.
-fn quotient(end: usize, a: Jet, b: Jet) -> Jet
+fn quotient(end: usize, x: &[f64; 32], y: &[f64; 32]) -> Jet
     requires { ⌜ end ≤ positions ⌝ }
-    ensures { λ r. ⌜ r .c ≡ cut end (quotientOf (a .c) (b .c)) ⌝ }
+    ensures { λ r. ⌜ r .c ≡ cut end (quotientOf (now (x .entry)) (now (y .entry))) ⌝ }
 {
-    let x = a.c;
-    let y = b.c;
     let mut q = [0.0; 32];
     let mut m: usize = 0;
     while m < end {
-        q[m] = minus(x[m], &q, &y, m, 0) / y[0];
+        q[m] = minus(x[m], &q, y, m, 0) / y[0];
         m += 1;
     }
     Jet { c: q }
@@ -149,13 +149,17 @@ pub fn div_to(n: usize, a: Jet, b: Jet) -> Jet
     if n == 4 {
         return div_4(a, b);
     }
-    quotient(at_most(n), a, b)
+    let x = a.c;
+    let y = b.c;
+    quotient(at_most(n), &x, &y)
 }
 
 pub fn div(a: Jet, b: Jet) -> Jet
     ensures { λ r. ⌜ r .c ≡ quotientOf (a .c) (b .c) ⌝ }
 {
-    quotient(32, a, b)
+    let x = a.c;
+    let y = b.c;
+    quotient(32, &x, &y)
 }
 
 // 1 over a.

@@ -12,11 +12,10 @@ use crate::terms::minus;
 use crate::terms::weight;
 
 // The coefficients of a root at positions below `end`.
-fn root(end: usize, a: Jet) -> Jet
+fn root(end: usize, x: &[f64; 32]) -> Jet
     requires { ⌜ end ≤ positions ⌝ }
-    ensures { λ r. ⌜ r .c ≡ cut end (rootOf (a .c)) ⌝ }
+    ensures { λ r. ⌜ r .c ≡ cut end (rootOf (now (x .entry))) ⌝ }
 {
-    let x = a.c;
     let mut r = [0.0; 32];
     if end == 0 {
         return Jet { c: r };
@@ -37,21 +36,22 @@ pub fn sqrt_to(n: usize, a: Jet) -> Jet
     if n == 4 {
         return sqrt_4(a);
     }
-    root(at_most(n), a)
+    let x = a.c;
+    root(at_most(n), &x)
 }
 
 pub fn sqrt(a: Jet) -> Jet
     ensures { λ r. ⌜ r .c ≡ rootOf (a .c) ⌝ }
 {
-    root(32, a)
+    let x = a.c;
+    root(32, &x)
 }
 
 // The coefficients of a logarithm at positions below `end`. wl holds them, each times its weight.
-fn logarithm(end: usize, a: Jet) -> Jet
+fn logarithm(end: usize, x: &[f64; 32]) -> Jet
     requires { ⌜ end ≤ positions ⌝ }
-    ensures { λ r. ⌜ r .c ≡ cut end (logarithmOf (a .c)) ⌝ }
+    ensures { λ r. ⌜ r .c ≡ cut end (logarithmOf (now (x .entry))) ⌝ }
 {
-    let x = a.c;
     let mut l = [0.0; 32];
     let mut wl = [0.0; 32];
     if end == 0 {
@@ -61,7 +61,7 @@ fn logarithm(end: usize, a: Jet) -> Jet
     let mut m: usize = 1;
     while m < end {
         let w = weight(m);
-        let v = minus(w * x[m], &wl, &x, m, next(0, m)) / (w * x[0]);
+        let v = minus(w * x[m], &wl, x, m, next(0, m)) / (w * x[0]);
         l[m] = v;
         wl[m] = w * v;
         m += 1;
@@ -75,11 +75,13 @@ pub fn ln_to(n: usize, a: Jet) -> Jet
     if n == 4 {
         return ln_4(a);
     }
-    logarithm(at_most(n), a)
+    let x = a.c;
+    logarithm(at_most(n), &x)
 }
 
 pub fn ln(a: Jet) -> Jet
     ensures { λ r. ⌜ r .c ≡ logarithmOf (a .c) ⌝ }
 {
-    logarithm(32, a)
+    let x = a.c;
+    logarithm(32, &x)
 }

@@ -10,7 +10,7 @@ quotient-requires c κs = search needs
 
 returns : tie.Need-returns
 unfolding quotientOf
-returns c = cut-full (quotientAt (c .before .args .a .c) (c .before .args .b .c)) _ (c .quotient .ensures)
+returns c = cut-full (quotientAt (c .before .before .before .before .before .args .a .c) (c .before .before .before .before .before .args .b .c)) _ (c .quotient .ensures)
 
 pub div-spec : {M : Type 1} → statement M
 div-spec = tie.close (tie.spec quotient-requires returns)

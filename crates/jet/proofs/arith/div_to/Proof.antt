@@ -16,11 +16,11 @@ at-most-requires : tie.Need-at-most-requires
 at-most-requires c κs = search needs
 
 quotient-requires : tie.Need-quotient-requires
-quotient-requires c κs = rw (c .at-most .ensures) (min-le-right _ _)
+quotient-requires c κs = rw (c .before .before .at-most .ensures) (min-le-right _ _)
 
 returns-2 : tie.Need-returns-2
 unfolding quotientOf
-returns-2 c = let s = c .before .before .before in cut-at-most (quotientAt (s .args .a .c) (s .args .b .c)) (s .args .n) (c .before .at-most .result) _ (c .before .at-most .ensures) (c .quotient .ensures)
+returns-2 c = let s = c .before .before .before .before .before .before .before in cut-at-most (quotientAt (s .args .a .c) (s .args .b .c)) (s .args .n) (c .before .before .before .at-most .result) _ (c .before .before .before .at-most .ensures) (c .quotient .ensures)
 
 pub div-to-spec : {M : Type 1} → statement M
 div-to-spec = tie.close (tie.spec div-4-requires returns at-most-requires quotient-requires returns-2)

@@ -10,7 +10,7 @@ product-requires c κs = search needs
 
 returns : tie.Need-returns
 unfolding productOf
-returns c = cut-full (productAt (c .before .args .a .c) (c .before .args .b .c)) _ (c .product .ensures)
+returns c = cut-full (productAt (c .before .before .before .before .before .args .a .c) (c .before .before .before .before .before .args .b .c)) _ (c .product .ensures)
 
 pub mul-spec : {M : Type 1} → statement M
 mul-spec = tie.close (tie.spec product-requires returns)

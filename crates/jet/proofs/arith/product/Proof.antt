@@ -19,14 +19,14 @@ abbrev μ-loop : tie.MeasureT-loop
 loop-holds : tie.Need-loop-holds Inv-loop μ-loop
 loop-holds c = (omega arith, fill-start _)
 
-array-read-plus : tie.Need-array-read-plus Inv-loop μ-loop
-array-read-plus c = search needs
+element-copy-out-plus : tie.Need-element-copy-out-plus Inv-loop μ-loop
+element-copy-out-plus c = search needs
 
 mul-plus : tie.Need-mul-plus Inv-loop μ-loop
 mul-plus c = search needs
 
-array-read-plus-2 : tie.Need-array-read-plus-2 Inv-loop μ-loop
-array-read-plus-2 c = search needs
+element-copy-out-plus-2 : tie.Need-element-copy-out-plus-2 Inv-loop μ-loop
+element-copy-out-plus-2 c = search needs
 
 plus-requires : tie.Need-plus-requires Inv-loop μ-loop
 plus-requires c κs = search needs
@@ -47,15 +47,15 @@ loop-again : tie.Need-loop-again Inv-loop μ-loop
 unfolding productAt
 loop-again c =
     let l = c .before .before .before .before in
-    let x = l .before .before .before .args .a .c in
-    let y = l .before .before .before .args .b .c in
+    let x = l .before .args .x .now in
+    let y = l .before .args .y .now in
     (omega arith, fill-turn (productAt x y) (λ m c d h. refl) (l .loop .m) _ (l .loop .c) (omega arith) (l .loop .inv .1) (c .plus .ensures ∙ product-row x y (l .loop .c) (l .loop .m)))
 
 returns : tie.Need-returns Inv-loop μ-loop
 unfolding productOf
 returns c =
-    let s = c .before .before .before .before in
-    filled (productAt (s .args .a .c) (s .args .b .c)) (s .args .end) (c .before .loop .m) _ (omega arith) (c .before .loop .inv .1)
+    let s = c .before .before in
+    filled (productAt (s .args .x .now) (s .args .y .now)) (s .args .end) (c .before .loop .m) _ (omega arith) (c .before .loop .inv .1)
 
 pub product-spec : {M : Type 1} → statement M
 product-spec =
@@ -64,9 +64,9 @@ product-spec =
     Inv-loop
     μ-loop
     loop-holds
-    array-read-plus
+    element-copy-out-plus
     mul-plus
-    array-read-plus-2
+    element-copy-out-plus-2
     plus-requires
     mul-c
     array-write-c

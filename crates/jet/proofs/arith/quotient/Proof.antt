@@ -24,14 +24,14 @@ loop-holds c = (omega arith, fill-start _)
 mul-minus : tie.Need-mul-minus Inv-loop μ-loop
 mul-minus c = search needs
 
-array-read-minus : tie.Need-array-read-minus Inv-loop μ-loop
-array-read-minus c = search needs
+element-copy-out-minus : tie.Need-element-copy-out-minus Inv-loop μ-loop
+element-copy-out-minus c = search needs
 
 minus-requires : tie.Need-minus-requires Inv-loop μ-loop
 minus-requires c κs = (search needs, least _)
 
-array-read-q : tie.Need-array-read-q Inv-loop μ-loop
-array-read-q c = search needs
+element-copy-out-q : tie.Need-element-copy-out-q Inv-loop μ-loop
+element-copy-out-q c = search needs
 
 mul-q : tie.Need-mul-q Inv-loop μ-loop
 mul-q c = search needs
@@ -47,16 +47,16 @@ loop-less c = search needs
 
 loop-again : tie.Need-loop-again Inv-loop μ-loop
 loop-again c =
-    let l = c .before .before .before .before in
-    let x = l .before .before .before .args .a .c in
-    let y = l .before .before .before .args .b .c in
-    (omega arith, fill-turn (quotientAt x y) (quotient-local x y) (l .loop .m) _ (l .loop .q) (omega arith) (l .loop .inv .1) (quotient-row x y (l .loop .q) (l .loop .m) _ (c .minus .ensures)))
+    let l = c .before .before .before .before .before in
+    let x = l .before .args .x .now in
+    let y = l .before .args .y .now in
+    (omega arith, fill-turn (quotientAt x y) (quotient-local x y) (l .loop .m) _ (l .loop .q) (omega arith) (l .loop .inv .1) (quotient-row x y (l .loop .q) (l .loop .m) _ (c .before .minus .ensures)))
 
 returns : tie.Need-returns Inv-loop μ-loop
 unfolding quotientOf
 returns c =
-    let s = c .before .before .before .before in
-    filled (quotientAt (s .args .a .c) (s .args .b .c)) (s .args .end) (c .before .loop .m) _ (omega arith) (c .before .loop .inv .1)
+    let s = c .before .before in
+    filled (quotientAt (s .args .x .now) (s .args .y .now)) (s .args .end) (c .before .loop .m) _ (omega arith) (c .before .loop .inv .1)
 
 pub quotient-spec : {M : Type 1} → statement M
 quotient-spec =
@@ -66,9 +66,9 @@ quotient-spec =
     μ-loop
     loop-holds
     mul-minus
-    array-read-minus
+    element-copy-out-minus
     minus-requires
-    array-read-q
+    element-copy-out-q
     mul-q
     array-write-q
     add-m

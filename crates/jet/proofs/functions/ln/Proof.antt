@@ -10,7 +10,7 @@ logarithm-requires c κs = search needs
 
 returns : tie.Need-returns
 unfolding logarithmOf
-returns c = cut-full (logarithmAt (c .before .args .a .c)) _ (c .logarithm .ensures)
+returns c = cut-full (logarithmAt (c .before .before .before .args .a .c)) _ (c .logarithm .ensures)
 
 pub ln-spec : {M : Type 1} → statement M
 ln-spec = tie.close (tie.spec logarithm-requires returns)

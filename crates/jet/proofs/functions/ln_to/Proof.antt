@@ -16,11 +16,11 @@ at-most-requires : tie.Need-at-most-requires
 at-most-requires c κs = search needs
 
 logarithm-requires : tie.Need-logarithm-requires
-logarithm-requires c κs = rw (c .at-most .ensures) (min-le-right _ _)
+logarithm-requires c κs = rw (c .before .at-most .ensures) (min-le-right _ _)
 
 returns-2 : tie.Need-returns-2
 unfolding logarithmOf
-returns-2 c = let s = c .before .before .before in cut-at-most (logarithmAt (s .args .a .c)) (s .args .n) (c .before .at-most .result) _ (c .before .at-most .ensures) (c .logarithm .ensures)
+returns-2 c = let s = c .before .before .before .before .before in cut-at-most (logarithmAt (s .args .a .c)) (s .args .n) (c .before .before .at-most .result) _ (c .before .before .at-most .ensures) (c .logarithm .ensures)
 
 pub ln-to-spec : {M : Type 1} → statement M
 ln-to-spec = tie.close (tie.spec ln-4-requires returns at-most-requires logarithm-requires returns-2)

@@ -31,10 +31,10 @@ abbrev μ-loop : tie.MeasureT-loop
 
 returns : tie.Need-returns Inv-loop μ-loop
 unfolding logarithmOf
-returns c = filled (logarithmAt (c .before .before .args .a .c)) (c .before .before .args .end) 0 _ (omega arith) (fill-start _)
+returns c = filled (logarithmAt (c .before .args .x .now)) (c .before .args .end) 0 _ (omega arith) (fill-start _)
 
-array-read-ln : tie.Need-array-read-ln Inv-loop μ-loop
-array-read-ln c = search needs
+element-copy-out-ln : tie.Need-element-copy-out-ln Inv-loop μ-loop
+element-copy-out-ln c = search needs
 
 ln-requires : tie.Need-ln-requires Inv-loop μ-loop
 ln-requires c κs = search needs
@@ -45,7 +45,7 @@ array-write-l c = search needs
 loop-holds : tie.Need-loop-holds Inv-loop μ-loop
 unfolding logarithmAt
 loop-holds c =
-    let x = c .before .before .before .args .a .c in
+    let x = c .before .before .before .args .x .now in
     record {
       some = omega arith;
       under = omega arith;
@@ -60,8 +60,8 @@ weight-requires c κs = search needs
 mul-minus : tie.Need-mul-minus Inv-loop μ-loop
 mul-minus c = search needs
 
-array-read-minus : tie.Need-array-read-minus Inv-loop μ-loop
-array-read-minus c = search needs
+element-copy-out-minus : tie.Need-element-copy-out-minus Inv-loop μ-loop
+element-copy-out-minus c = search needs
 
 next-requires : tie.Need-next-requires Inv-loop μ-loop
 next-requires c κs = (search needs, search needs, least _)
@@ -69,8 +69,8 @@ next-requires c κs = (search needs, search needs, least _)
 minus-requires : tie.Need-minus-requires Inv-loop μ-loop
 minus-requires c κs = (search needs, c .next .ensures .1)
 
-array-read-v : tie.Need-array-read-v Inv-loop μ-loop
-array-read-v c = search needs
+element-copy-out-v : tie.Need-element-copy-out-v Inv-loop μ-loop
+element-copy-out-v c = search needs
 
 mul-l : tie.Need-mul-l Inv-loop μ-loop
 mul-l c = search needs
@@ -93,16 +93,16 @@ loop-less c = search needs
 loop-again : tie.Need-loop-again Inv-loop μ-loop
 unfolding logarithmAt
 loop-again c =
-    let s = c .before .before .before .before .before .before in
+    let s = c .before .before .before .before .before .before .before in
     let l = s .loop in
     let i = l .inv in
-    let x = s .before .before .before .before .args .a .c in
-    let weight = c .before .before .before .before .weight .ensures in
+    let x = s .before .before .before .before .args .x .now in
+    let weight = c .before .before .before .before .before .weight .ensures in
     let long : length (l .l) ≡ positions = ap length (i .filled) ∙ length-filled (logarithmAt x) (l .m) (omega arith) in
     record {
       some = omega arith;
       under = omega arith;
-      filled = fill-turn (logarithmAt x) (logarithm-local x) (l .m) _ (l .l) (omega arith) (i .filled) (logarithm-row x (l .l) (l .wl) (l .m) _ _ _ (i .some) (c .before .next .ensures) (i .weighted) weight (c .minus .ensures));
+      filled = fill-turn (logarithmAt x) (logarithm-local x) (l .m) _ (l .l) (omega arith) (i .filled) (logarithm-row x (l .l) (l .wl) (l .m) _ _ _ (i .some) (c .before .before .next .ensures) (i .weighted) weight (c .before .minus .ensures));
       sized = length-set (l .wl) (l .m) _ ∙ i .sized;
       weighted = weighted-turn (l .l) (l .wl) (l .m) _ _ (omega arith) (omega arith) weight (i .weighted);
     }
@@ -111,7 +111,7 @@ returns-2 : tie.Need-returns-2 Inv-loop μ-loop
 unfolding logarithmOf
 returns-2 c =
     let s = c .before .before .before .before .before in
-    filled (logarithmAt (s .args .a .c)) (s .args .end) (c .before .loop .m) _ (omega (arith, c .before .loop .inv .under)) (c .before .loop .inv .filled)
+    filled (logarithmAt (s .args .x .now)) (s .args .end) (c .before .loop .m) _ (omega (arith, c .before .loop .inv .under)) (c .before .loop .inv .filled)
 
 pub logarithm-spec : {M : Type 1} → statement M
 logarithm-spec =
@@ -120,16 +120,16 @@ logarithm-spec =
     Inv-loop
     μ-loop
     returns
-    array-read-ln
+    element-copy-out-ln
     ln-requires
     array-write-l
     loop-holds
     weight-requires
     mul-minus
-    array-read-minus
+    element-copy-out-minus
     next-requires
     minus-requires
-    array-read-v
+    element-copy-out-v
     mul-l
     array-write-l-2
     mul-wl

@@ -23,10 +23,10 @@ abbrev μ-loop : tie.MeasureT-loop
 
 returns : tie.Need-returns Inv-loop μ-loop
 unfolding rootOf
-returns c = filled (rootAt (c .before .before .args .a .c)) (c .before .before .args .end) 0 _ (omega arith) (fill-start _)
+returns c = filled (rootAt (c .before .args .x .now)) (c .before .args .end) 0 _ (omega arith) (fill-start _)
 
-array-read-sqrt : tie.Need-array-read-sqrt Inv-loop μ-loop
-array-read-sqrt c = search needs
+element-copy-out-sqrt : tie.Need-element-copy-out-sqrt Inv-loop μ-loop
+element-copy-out-sqrt c = search needs
 
 sqrt-requires : tie.Need-sqrt-requires Inv-loop μ-loop
 sqrt-requires c κs = search needs
@@ -40,14 +40,14 @@ array-read-d c = search needs
 loop-holds : tie.Need-loop-holds Inv-loop μ-loop
 unfolding rootAt
 loop-holds c =
-    let x = c .before .before .before .args .a .c in
+    let x = c .before .before .before .args .x .now in
     (omega arith, omega arith, fill-turn (rootAt x) (root-local x) 0 (c .sqrt .result) _ (omega arith) (fill-start _) (c .sqrt .ensures))
 
 mul-minus : tie.Need-mul-minus Inv-loop μ-loop
 mul-minus c = search needs
 
-array-read-minus : tie.Need-array-read-minus Inv-loop μ-loop
-array-read-minus c = search needs
+element-copy-out-minus : tie.Need-element-copy-out-minus Inv-loop μ-loop
+element-copy-out-minus c = search needs
 
 next-requires : tie.Need-next-requires Inv-loop μ-loop
 next-requires c κs = (search needs, search needs, least _)
@@ -70,8 +70,8 @@ loop-less c = search needs
 loop-again : tie.Need-loop-again Inv-loop μ-loop
 unfolding rootAt
 loop-again c =
-    let l = c .before .before .before .before .before in
-    let x = l .before .before .before .before .args .a .c in
+    let l = c .before .before .before .before .before .before in
+    let x = l .before .before .before .before .args .x .now in
     let first : at (l .loop .r) 0 ≡ root (at x 0) = ap (λ (r : List Float). at r 0) (l .loop .inv .2) ∙ first-filled (rootAt x) (l .loop .m) (l .loop .inv .0) (omega arith) in
     (omega arith, omega arith, fill-turn (rootAt x) (root-local x) (l .loop .m) _ (l .loop .r) (omega arith) (l .loop .inv .2) (root-row x (l .loop .r) (l .loop .m) _ _ _ (l .loop .inv .0) (c .before .next .ensures) (c .minus .ensures) (l .before .sqrt .ensures ∙ sym first)))
 
@@ -79,7 +79,7 @@ returns-2 : tie.Need-returns-2 Inv-loop μ-loop
 unfolding rootOf
 returns-2 c =
     let s = c .before .before .before .before .before in
-    filled (rootAt (s .args .a .c)) (s .args .end) (c .before .loop .m) _ (omega arith) (c .before .loop .inv .2)
+    filled (rootAt (s .args .x .now)) (s .args .end) (c .before .loop .m) _ (omega arith) (c .before .loop .inv .2)
 
 pub root-spec : {M : Type 1} → statement M
 root-spec =
@@ -88,13 +88,13 @@ root-spec =
     Inv-loop
     μ-loop
     returns
-    array-read-sqrt
+    element-copy-out-sqrt
     sqrt-requires
     array-write-r
     array-read-d
     loop-holds
     mul-minus
-    array-read-minus
+    element-copy-out-minus
     next-requires
     minus-requires
     mul-r

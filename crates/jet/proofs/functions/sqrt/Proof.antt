@@ -10,7 +10,7 @@ root-requires c κs = search needs
 
 returns : tie.Need-returns
 unfolding rootOf
-returns c = cut-full (rootAt (c .before .args .a .c)) _ (c .root .ensures)
+returns c = cut-full (rootAt (c .before .before .before .args .a .c)) _ (c .root .ensures)
 
 pub sqrt-spec : {M : Type 1} → statement M
 sqrt-spec = tie.close (tie.spec root-requires returns)

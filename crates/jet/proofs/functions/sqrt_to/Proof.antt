@@ -16,11 +16,11 @@ at-most-requires : tie.Need-at-most-requires
 at-most-requires c κs = search needs
 
 root-requires : tie.Need-root-requires
-root-requires c κs = rw (c .at-most .ensures) (min-le-right _ _)
+root-requires c κs = rw (c .before .at-most .ensures) (min-le-right _ _)
 
 returns-2 : tie.Need-returns-2
 unfolding rootOf
-returns-2 c = let s = c .before .before .before in cut-at-most (rootAt (s .args .a .c)) (s .args .n) (c .before .at-most .result) _ (c .before .at-most .ensures) (c .root .ensures)
+returns-2 c = let s = c .before .before .before .before .before in cut-at-most (rootAt (s .args .a .c)) (s .args .n) (c .before .before .at-most .result) _ (c .before .before .at-most .ensures) (c .root .ensures)
 
 pub sqrt-to-spec : {M : Type 1} → statement M
 sqrt-to-spec = tie.close (tie.spec sqrt-4-requires returns at-most-requires root-requires returns-2)
