@@ -1,5 +1,5 @@
 // Numbers as jets, and the arithmetic of jets. A function `.._to` works out the coefficients at positions below n
-// and leaves +0 at the others. Its loop stands apart: n = 4 has a form without one, which then copies no jet for it.
+// and leaves +0 at the others. Its loop is a function of its own: n = 4 goes without one, and then no jet is copied for it.
 ghost use mathlib.Core.Path.{_≡_};
 ghost use Prim.Native.Nat.{_≤_, _<_, min};
 ghost use mathlib.Core.List.{[]};
