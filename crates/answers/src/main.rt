@@ -1,5 +1,7 @@
 // Answers requests of 642 bytes (kind, N, block) from standard input with a line each, until the input ends. A last piece
 // that is too short is answered `short`.
+#![tactic(auto)]
+
 ghost use Rattle.std.specs.Prelude.{◌≡◌, ◌≤◌, ◌<◌, length};
 ghost use Rattle.buf.specs.Bytes.{splice};
 ghost use Rattle.answers.specs.Reply.{reply_of};

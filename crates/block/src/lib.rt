@@ -1,4 +1,6 @@
 // Document 01's request block: its four parts, the numbers that a kind reads of them, and the checks of these.
+#![tactic(auto)]
+
 mod blend;
 mod checks;
 mod numbers;

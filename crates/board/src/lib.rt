@@ -1,4 +1,6 @@
 // The board's calls on lent bytes, for any bytes and any arguments. What each makes of them is in board_spec's specs/Board.antt.
+#![tactic(auto)]
+
 mod looks;
 mod quotes;
 mod ranges;

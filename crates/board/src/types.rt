@@ -1,6 +1,6 @@
 // What the calls answer. specs/Answers.antt has document 01's number for each refusal.
 
-#[derive(Drop)]
+#[derive(Clone, Copy)]
 pub enum Submitted {
     BadBoard,
     BadQueue,
@@ -11,7 +11,7 @@ pub enum Submitted {
     Ticket(u64),
 }
 
-#[derive(Drop)]
+#[derive(Clone, Copy)]
 pub enum Turned {
     BadBoard,
     ShortRecord,
@@ -19,7 +19,7 @@ pub enum Turned {
     Written,
 }
 
-#[derive(Drop)]
+#[derive(Clone, Copy)]
 pub enum Looked {
     BadBoard,
     BadQueue,
@@ -27,7 +27,7 @@ pub enum Looked {
     Shown { evaluations: u64, density: f64 },
 }
 
-#[derive(Drop)]
+#[derive(Clone, Copy)]
 pub enum Quoted {
     BadBoard,
     BadQueue,
@@ -37,7 +37,7 @@ pub enum Quoted {
 }
 
 // The answer of any call, refusals by document 01's numbers.
-#[derive(Drop)]
+#[derive(Clone, Copy)]
 pub enum Told {
     Refused(u64),
     Ticket(u64),

@@ -1,4 +1,6 @@
 // Little-endian numbers, floats and parts in a slice of bytes. specs/Bytes.antt says what each is, for any list.
+#![tactic(auto)]
+
 ghost use Rattle.std.specs.Prelude.{◌≡◌, ◌+◌, ◌≤◌, ◌<◌, true, length};
 ghost use Rattle.float.specs.Sign.{finite_of};
 ghost use Rattle.buf.specs.Bytes.{num_at, put_num, splice, u64_at, put_u64, f64_at, put_f64};

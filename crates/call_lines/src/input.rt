@@ -7,7 +7,7 @@ use calls::Found;
 use libc::{STDIN_FILENO, STDOUT_FILENO};
 
 // How many bytes of the next call stand in the buffer, and how many more were read past it.
-#[derive(Drop)]
+#[derive(Clone, Copy)]
 struct Filled {
     count: usize,
     beyond: u64,

@@ -1,4 +1,6 @@
 // Calls and their public answers as bytes: the format of a whole run. specs/Calls.antt says what it is.
+#![tactic(auto)]
+
 mod reader;
 mod types;
 mod writer;

@@ -1,7 +1,7 @@
 // A call that stands in bytes. specs/Calls.antt says what each stands for.
 
 // Blocks are named by their place: `length` bytes from index `from`. A turn's record buffer is `length` zero bytes.
-#[derive(Drop)]
+#[derive(Clone, Copy)]
 pub enum Call {
     Submit {
         queue: u64,
@@ -23,7 +23,7 @@ pub enum Call {
 }
 
 // What stands at an index: a call and where the next begins, or none.
-#[derive(Drop)]
+#[derive(Clone, Copy)]
 pub enum Found {
     At(Call, usize),
     End,

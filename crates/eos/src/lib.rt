@@ -1,4 +1,6 @@
 // The equation of state of Peng and Robinson: blends, their maximum density, and the Helmholtz energy on jets in three forms.
+#![tactic(auto)]
+
 mod cubic;
 pub mod helmholtz_12;
 pub mod helmholtz_4;

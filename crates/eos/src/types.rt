@@ -2,7 +2,7 @@
 use jet::Jet;
 
 // The parameters of one component: critical temperature, a, b and kappa.
-#[derive(Drop)]
+#[derive(Clone, Copy)]
 pub struct Component {
     pub tc: f64,
     pub a: f64,
@@ -11,7 +11,7 @@ pub struct Component {
 }
 
 // A blend of n components, 1 to 8: their parameters, the interactions k_ij at 8 * i + j, and the mole fractions.
-#[derive(Drop)]
+#[derive(Clone, Copy)]
 pub struct Blend {
     pub n: usize,
     pub tc: [f64; 8],
@@ -23,7 +23,7 @@ pub struct Blend {
 }
 
 // What the components of a blend make together: the density, and its a and b.
-#[derive(Drop)]
+#[derive(Clone, Copy)]
 pub struct Mixture {
     pub density: Jet,
     pub a: Jet,
@@ -31,7 +31,7 @@ pub struct Mixture {
 }
 
 // The roots of ak_i * ak_j of two components.
-#[derive(Drop)]
+#[derive(Clone, Copy)]
 pub struct PairRoots {
     pub r11: Jet,
     pub r12: Jet,

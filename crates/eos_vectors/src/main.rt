@@ -2,6 +2,8 @@
 // the number of components N in a byte, and floats as bit patterns, little-endian: critical temperature, critical pressure
 // and acentric factor of each component; the interactions k_ij by rows, i below j; the fractions; temperature; density. In 7 and 8 two partial densities stand for the fractions and
 // the pressure for the density. README.md has the evaluation bytes.
+#![tactic(auto)]
+
 ghost use Rattle.std.specs.Prelude.{◌+◌, ◌≤◌, ◌<◌};
 
 use eos::Blend;

@@ -1,5 +1,7 @@
 // The evaluations that searches ask for, each equal to one definition: pressures and potentials along the density, the
 // conditions of criticality and of stability.
+#![tactic(auto)]
+
 mod critical_point;
 mod critical_point_binary;
 mod mole_numbers;

@@ -2,7 +2,7 @@
 use jet::Jet;
 
 // Pressure, its slope and its curvature along the density.
-#[derive(Drop)]
+#[derive(Clone, Copy)]
 pub struct Pressure {
     pub p: f64,
     pub dp_drho: f64,
@@ -10,7 +10,7 @@ pub struct Pressure {
 }
 
 // The two criticality conditions, and their derivatives by the two unknowns of a search: temperature and density, or two partial densities.
-#[derive(Drop)]
+#[derive(Clone, Copy)]
 pub struct Criticality {
     pub l: f64,
     pub c2: f64,
@@ -21,7 +21,7 @@ pub struct Criticality {
 }
 
 // A condition, and its derivatives by three unknowns: the temperature and two partial densities.
-#[derive(Drop)]
+#[derive(Clone, Copy)]
 pub struct Condition {
     pub value: f64,
     pub d0: f64,
@@ -30,7 +30,7 @@ pub struct Condition {
 }
 
 // The two criticality conditions and that of a set pressure.
-#[derive(Drop)]
+#[derive(Clone, Copy)]
 pub struct PressureCriticality {
     pub l: Condition,
     pub c2: Condition,
@@ -38,21 +38,21 @@ pub struct PressureCriticality {
 }
 
 // The stability condition, and its derivative by the density.
-#[derive(Drop)]
+#[derive(Clone, Copy)]
 pub struct Stability {
     pub f: f64,
     pub df: f64,
 }
 
 // The two criticality conditions as jets.
-#[derive(Drop)]
+#[derive(Clone, Copy)]
 pub struct ConditionJets {
     pub l: Jet,
     pub c2: Jet,
 }
 
 // The density of two components, the molar volume and the fractions, as jets.
-#[derive(Drop)]
+#[derive(Clone, Copy)]
 pub struct BinaryState {
     pub density: Jet,
     pub v: Jet,
@@ -61,7 +61,7 @@ pub struct BinaryState {
 }
 
 // The entries of a symmetric 2 by 2 matrix of jets.
-#[derive(Drop)]
+#[derive(Clone, Copy)]
 pub struct SymmetricMatrix {
     pub m11: Jet,
     pub m12: Jet,

@@ -1,4 +1,6 @@
 // The layers below a request that bench/ measures, under C's names and with the contracts of what they call. Users link `gateway`.
+#![tactic(auto)]
+
 ghost use Rattle.std.specs.Prelude.{◌≡◌};
 ghost use Rattle.float.specs.Root.{root};
 ghost use Rattle.float.specs.Ln.{ln_of};

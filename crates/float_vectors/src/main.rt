@@ -1,6 +1,8 @@
 // Reads bit patterns, one to a line as 16 hexadecimal digits, and prints what the crate `float` makes of each value x:
 // the bits of its square root and logarithm; and for each of the first 256 lines also those of x itself, abs, signum, max
 // and min of the value of the line before and x, and 1 or 0 for a minus sign and for finite.
+#![tactic(auto)]
+
 ghost use Rattle.std.specs.Prelude.{◌+◌, ◌≤◌, ◌<◌, length};
 
 use libc::STDOUT_FILENO;

@@ -1,5 +1,7 @@
 // The functions that users link, under C's names and with the contracts of what they call; include/peng_robinson_board.h describes
 // them for C. A slice is a pointer and a length there. A call that a request adds joins them.
+#![tactic(auto)]
+
 ghost use Rattle.std.specs.Prelude.{◌≡◌};
 ghost use Rattle.records.specs.Answered.{number_of, answered};
 ghost use Rattle.board_spec.specs.Board.{submit_board, turn_board, look_board, quote_board};

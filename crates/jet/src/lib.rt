@@ -1,5 +1,7 @@
 // Jets: polynomials in the marks e0 (degree up to 3), e1, e2 and e3 (up to 1), with document 01's rules for the
 // coefficients of a sum, product, quotient, root and logarithm. specs/Coefficients.antt has the rules.
+#![tactic(auto)]
+
 mod arith;
 mod four;
 mod functions;
@@ -14,7 +16,7 @@ pub use crate::four::{div_4, ln_4, mul_4, sqrt_4, sqrt_4_from};
 pub use crate::functions::{ln, ln_to, sqrt, sqrt_to};
 
 // The coefficients, of e0^i e1^j e2^k e3^l at position i + 4j + 8k + 16l.
-#[derive(Drop)]
+#[derive(Clone, Copy)]
 pub struct Jet {
     pub c: [f64; 32],
 }

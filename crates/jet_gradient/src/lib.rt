@@ -1,6 +1,8 @@
 // The coefficients of first order in e1, e2 and e3 at positions below w, at most 20: those along e0, and those along e0 beside e1 (4 to 7), e2 (8 to 11) or e3 (16 to 19),
 // without a loop or a table. The evaluations of critical points and of stability need no others, and those beside e3 only where three unknowns are marked. The first four are
 // `jet`'s; beside a mark the same four terms stand for each mark.
+#![tactic(auto)]
+
 ghost use Rattle.std.specs.Prelude.{◌≡◌, ◌≤◌};
 ghost use Rattle.float.specs.Root.{root};
 ghost use Rattle.jet.specs.Coefficients.{at, Upto, sum_of, difference_of, product_of, quotient_of, root_of, logarithm_of};
@@ -9,7 +11,7 @@ ghost use Rattle.jet_gradient.specs.Beside.{four_at, no_four, joined_of, sum_bes
 use jet::Jet;
 
 // Four coefficients along e0, or along e0 beside another mark.
-#[derive(Drop)]
+#[derive(Clone, Copy)]
 struct Four {
     c0: f64,
     c1: f64,

@@ -1,6 +1,8 @@
 // Reads operations on jets, 513 bytes each: an operation byte, then the 32 coefficients of the first operand and of the
 // second as bit patterns, little-endian (zeros for an operation on one jet). Prints the result's 32 patterns, a line each.
 // README.md has the operation bytes.
+#![tactic(auto)]
+
 ghost use Rattle.std.specs.Prelude.{◌+◌, ◌≤◌, ◌<◌};
 
 use jet::Jet;

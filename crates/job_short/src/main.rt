@@ -1,4 +1,6 @@
 // One run of `jobs` in the gate.
+#![tactic(auto)]
+
 fn main() {
     jobs::answer_input();
 }

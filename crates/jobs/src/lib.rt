@@ -1,5 +1,7 @@
 // A request of 642 bytes (kind, N, block) is submitted to queue 0 of a fresh board and has turns until its record is written. The programs
 // `job`, `job_found`, `job_refused` and `job_short` are this on one input each.
+#![tactic(auto)]
+
 ghost use Rattle.std.specs.Prelude.{◌≡◌, ◌≤◌, length};
 ghost use Rattle.buf.specs.Bytes.{splice};
 ghost use Rattle.jobs.specs.Line.{verdict_of, refusal_by, record_by, reply_of};

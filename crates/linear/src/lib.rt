@@ -1,4 +1,6 @@
 // Linear algebra by the documents' stand-ins: the 2 by 2 and 3 by 3 solves and the norms on floats, the smallest eigenvalue with its vector on jets.
+#![tactic(auto)]
+
 mod eigen;
 mod systems;
 mod types;

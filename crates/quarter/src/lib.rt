@@ -1,4 +1,6 @@
 // A quarter of the board: a queue's jobs and its running search, in 6,144 lent bytes. Definitions in board_spec's specs/Quarter.antt.
+#![tactic(auto)]
+
 mod jobs;
 mod quotes;
 mod ranges;

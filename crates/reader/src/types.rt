@@ -5,7 +5,7 @@ use solver_critical::Start;
 use solver_density::Branch;
 
 // What a job does, under the names of the Rust's functions; or the number of the refusal.
-#[derive(Drop)]
+#[derive(Clone, Copy)]
 pub enum Task {
     Refused(u64),
     // temperature, pressure, where to start
@@ -27,7 +27,7 @@ pub enum Task {
 }
 
 // A job, with the blend that it searches. On a refusal the blend is empty.
-#[derive(Drop)]
+#[derive(Clone, Copy)]
 pub struct Job {
     pub task: Task,
     pub blend: Blend,

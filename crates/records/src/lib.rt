@@ -1,4 +1,6 @@
 // The end of a job and its record; a whole answer without a board.
+#![tactic(auto)]
+
 mod outcomes;
 mod requests;
 mod types;

@@ -2,7 +2,7 @@
 use solver::Values;
 
 // What the sealed part of a record states.
-#[derive(Drop)]
+#[derive(Clone, Copy)]
 pub struct Outcome {
     pub status: u64,
     pub values: Values,
@@ -10,7 +10,7 @@ pub struct Outcome {
 }
 
 // What `answer` says. `number_of` in specs/Answered.antt has document 01's number for each refusal.
-#[derive(Drop)]
+#[derive(Clone, Copy)]
 pub enum Answered {
     Written,
     BadKind,

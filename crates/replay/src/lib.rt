@@ -1,4 +1,6 @@
 // A whole run as code: the calls that stand in bytes are made on a fresh board, and what the public sees of each is written.
+#![tactic(auto)]
+
 mod making;
 mod runs;
 mod types;

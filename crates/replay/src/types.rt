@@ -1,5 +1,5 @@
 // What `replay` answers.
-#[derive(Drop)]
+#[derive(Clone, Copy)]
 pub enum Replayed {
     // the board's length is not 24,584
     BadBoard,

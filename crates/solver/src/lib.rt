@@ -1,4 +1,6 @@
 // What all searches share: their answers, and in specs/ what a search is.
+#![tactic(auto)]
+
 mod answer;
 mod stored;
 mod types;

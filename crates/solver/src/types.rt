@@ -1,7 +1,7 @@
 // What the searches start from and what they hand out.
 
 // Where a search starts. The Rust's enum of the same name.
-#[derive(Drop)]
+#[derive(Clone, Copy)]
 pub enum DensityInitialization {
     Vapor,
     Liquid,
@@ -9,7 +9,7 @@ pub enum DensityInitialization {
 }
 
 // The floats that a search hands out, those it does not use +0.
-#[derive(Drop)]
+#[derive(Clone, Copy)]
 pub struct Values {
     pub first: f64,
     pub second: f64,
@@ -17,7 +17,7 @@ pub struct Values {
 }
 
 // Why a search fails. `number_of` in specs/Answer.antt has document 01's number for each.
-#[derive(Drop)]
+#[derive(Clone, Copy)]
 pub enum Refusal {
     StartNotPositive,
     NotConverged,
@@ -28,21 +28,21 @@ pub enum Refusal {
     NotFinite,
 }
 
-#[derive(Drop)]
+#[derive(Clone, Copy)]
 pub enum Answer {
     Found(Values),
     Refused(Refusal),
 }
 
 // An answer, with the evaluations that led to it.
-#[derive(Drop)]
+#[derive(Clone, Copy)]
 pub struct Ran {
     pub answer: Answer,
     pub evaluations: u64,
 }
 
 // The counters of a place of a search, as a board stores them; those that a place does not use are 0.
-#[derive(Drop)]
+#[derive(Clone, Copy)]
 pub struct Counters {
     pub stage: u64,
     pub tag: u64,
@@ -53,7 +53,7 @@ pub struct Counters {
 }
 
 // A place of a search as numbers.
-#[derive(Drop)]
+#[derive(Clone, Copy)]
 pub struct Numbers {
     pub counters: Counters,
     pub values: Values,

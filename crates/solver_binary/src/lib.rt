@@ -1,4 +1,6 @@
 // The searches for critical points of two components at a set temperature or pressure, run to their end: kinds 8 and 9.
+#![tactic(auto)]
+
 mod pressure;
 mod temperature;
 mod types;

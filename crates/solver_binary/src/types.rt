@@ -2,14 +2,14 @@
 use solver::Answer;
 
 // Two partial densities, or a step in both.
-#[derive(Drop)]
+#[derive(Clone, Copy)]
 pub struct Densities {
     pub rho0: f64,
     pub rho1: f64,
 }
 
 // A temperature and two partial densities, or a step in all three.
-#[derive(Drop)]
+#[derive(Clone, Copy)]
 pub struct Unknowns {
     pub t: f64,
     pub rho0: f64,
@@ -17,14 +17,14 @@ pub struct Unknowns {
 }
 
 // What a round of kind 8 comes to: its end, or where the next round starts.
-#[derive(Drop)]
+#[derive(Clone, Copy)]
 pub enum OutcomeT {
     End(Answer),
     Next(Densities),
 }
 
 // What a round of kind 9 comes to: its end, or where the next round starts.
-#[derive(Drop)]
+#[derive(Clone, Copy)]
 pub enum OutcomeP {
     End(Answer),
     Next(Unknowns),

@@ -1,4 +1,6 @@
 // The searches of kinds 8 and 9, one evaluation at a time.
+#![tactic(auto)]
+
 mod pressure;
 mod stored;
 mod temperature;

@@ -3,26 +3,26 @@ use solver::Answer;
 use solver_binary::{Densities, Unknowns};
 
 // In critical_point_binary_t: the rounds left after this one, and the partial densities.
-#[derive(Drop)]
+#[derive(Clone, Copy)]
 pub struct TemperatureSpot {
     pub rounds: u64,
     pub p: Densities,
 }
 
-#[derive(Drop)]
+#[derive(Clone, Copy)]
 pub enum TemperaturePlace {
     Ended(Answer),
     At(TemperatureSpot),
 }
 
 // In critical_point_binary_p: the rounds left after this one, and the temperature and partial densities.
-#[derive(Drop)]
+#[derive(Clone, Copy)]
 pub struct PressureSpot {
     pub rounds: u64,
     pub p: Unknowns,
 }
 
-#[derive(Drop)]
+#[derive(Clone, Copy)]
 pub enum PressurePlace {
     Ended(Answer),
     At(PressureSpot),

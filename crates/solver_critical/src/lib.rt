@@ -1,4 +1,6 @@
 // The searches of critical_point.rs, run to their end: kinds 5 to 7.
+#![tactic(auto)]
+
 mod critical;
 mod spinodals;
 mod types;

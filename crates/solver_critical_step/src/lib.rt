@@ -1,4 +1,6 @@
 // The searches of kinds 5 to 7, one evaluation at a time.
+#![tactic(auto)]
+
 mod critical;
 mod spinodals;
 mod stored;

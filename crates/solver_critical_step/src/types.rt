@@ -3,39 +3,39 @@ use solver::Answer;
 use solver_critical::Point;
 
 // In critical_point_hkm: the rounds left after this one, and where it is.
-#[derive(Drop)]
+#[derive(Clone, Copy)]
 pub struct HkmSpot {
     pub rounds: u64,
     pub p: Point,
 }
 
-#[derive(Drop)]
+#[derive(Clone, Copy)]
 pub enum HkmPlace {
     Ended(Answer),
     At(HkmSpot),
 }
 
 // In the search of kinds 5 and 7: from a given temperature, or in a trial, the trials counted from 0.
-#[derive(Drop)]
+#[derive(Clone, Copy)]
 pub enum CriticalSpot {
     Given(HkmSpot),
     Trial { trial: u64, at: HkmSpot },
 }
 
-#[derive(Drop)]
+#[derive(Clone, Copy)]
 pub enum CriticalPlace {
     Ended(Answer),
     At(CriticalSpot),
 }
 
 // In calculate_spinodal: the rounds left after this one, and the density.
-#[derive(Drop)]
+#[derive(Clone, Copy)]
 pub struct StabilitySpot {
     pub rounds: u64,
     pub rho: f64,
 }
 
-#[derive(Drop)]
+#[derive(Clone, Copy)]
 pub enum StabilityPlace {
     Ended(Answer),
     At(StabilitySpot),
@@ -43,14 +43,14 @@ pub enum StabilityPlace {
 
 // In the search of kind 6: its critical point, the vapour's spinodal with the critical density, or the liquid's
 // with the vapour's density.
-#[derive(Drop)]
+#[derive(Clone, Copy)]
 pub enum SpinodalsSpot {
     CriticalSearch(CriticalSpot),
     VaporSpinodal { critical: f64, at: StabilitySpot },
     LiquidSpinodal { vapor: f64, at: StabilitySpot },
 }
 
-#[derive(Drop)]
+#[derive(Clone, Copy)]
 pub enum SpinodalsPlace {
     Ended(Answer),
     At(SpinodalsSpot),

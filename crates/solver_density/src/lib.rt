@@ -1,4 +1,6 @@
 // The searches of density_iteration.rs, run to their end: kinds 1 to 4.
+#![tactic(auto)]
+
 mod density;
 mod spinodal;
 mod stable;

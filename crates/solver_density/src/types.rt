@@ -2,7 +2,7 @@
 use solver::Answer;
 
 // What stays the same throughout one density search. `start` is the Rust's initial_density, as a number.
-#[derive(Drop)]
+#[derive(Clone, Copy)]
 pub struct Conditions {
     pub maxdensity: f64,
     pub temperature: f64,
@@ -11,14 +11,14 @@ pub struct Conditions {
 }
 
 // The branch of a spinodal: the two cases of DensityInitialization that the Rust takes there.
-#[derive(Drop)]
+#[derive(Clone, Copy)]
 pub enum Branch {
     Vapor,
     Liquid,
 }
 
 // What a round of a spinodal search comes to: its end, or the next density.
-#[derive(Drop)]
+#[derive(Clone, Copy)]
 pub enum Outcome {
     End(Answer),
     Next(f64),
@@ -26,7 +26,7 @@ pub enum Outcome {
 
 // What a round of a density search comes to: a number that is not finite, the density looked for, the next density, or
 // the unstable region with the error.
-#[derive(Drop)]
+#[derive(Clone, Copy)]
 pub enum SlopeOutcome {
     NotFinite,
     Converged(f64),
@@ -36,7 +36,7 @@ pub enum SlopeOutcome {
 
 // The detours out of the unstable region that lead through the spinodal nearest to the start. Above and below is
 // the pressure beside the one looked for, convex and concave its curvature.
-#[derive(Drop)]
+#[derive(Clone, Copy)]
 pub enum Nearest {
     HighDensity,
     AboveConvex,
@@ -44,13 +44,13 @@ pub enum Nearest {
 }
 
 // The detours that lead through the spinodals of both branches.
-#[derive(Drop)]
+#[derive(Clone, Copy)]
 pub enum Both {
     BelowConvex,
     AboveConcave,
 }
 
-#[derive(Drop)]
+#[derive(Clone, Copy)]
 pub enum Detour {
     ByNearest(Nearest),
     ByBoth(Both),

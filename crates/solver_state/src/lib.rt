@@ -1,4 +1,6 @@
 // The searches of all kinds under way, as a board keeps them.
+#![tactic(auto)]
+
 mod state;
 mod types;
 

@@ -4,7 +4,7 @@ use solver_critical::Start;
 use solver_density::{Branch, Conditions};
 
 // What the search of each kind works with beside the blend, z0 and z1 being the fractions.
-#[derive(Drop)]
+#[derive(Clone, Copy)]
 pub enum Job {
     Density(Conditions),
     StableDensity {
@@ -49,7 +49,7 @@ pub enum Job {
 }
 
 // Where a search stands, the evaluations made, and the density of the latest one (+0 before any).
-#[derive(Drop)]
+#[derive(Clone, Copy)]
 pub struct State {
     pub numbers: Numbers,
     pub evaluations: u64,

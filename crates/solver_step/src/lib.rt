@@ -1,4 +1,6 @@
 // The searches of kinds 1 to 4, one evaluation at a time.
+#![tactic(auto)]
+
 mod density;
 mod spinodal;
 mod stable;

@@ -3,27 +3,27 @@ use solver::{Answer, Refusal};
 use solver_density::{Both, Nearest};
 
 // In a spinodal search, of kind 3 or 4 or inside a density search: the rounds left after this one, and the density.
-#[derive(Drop)]
+#[derive(Clone, Copy)]
 pub struct SpinodalSpot {
     pub rounds: u64,
     pub rho: f64,
 }
 
-#[derive(Drop)]
+#[derive(Clone, Copy)]
 pub enum SpinodalPlace {
     Ended(Answer),
     At(SpinodalSpot),
 }
 
 // How a density search ended.
-#[derive(Drop)]
+#[derive(Clone, Copy)]
 pub enum Phase {
     Found(f64),
     Failed(Refusal),
 }
 
 // In a density search, of kind 1 or inside kind 2. `left` is the rounds left after this one.
-#[derive(Drop)]
+#[derive(Clone, Copy)]
 pub enum DensitySpot {
     First,
     Slope {
@@ -53,14 +53,14 @@ pub enum DensitySpot {
     },
 }
 
-#[derive(Drop)]
+#[derive(Clone, Copy)]
 pub enum DensityPlace {
     Ended(Phase),
     At(DensitySpot),
 }
 
 // In the search of kind 2: a phase's search, or one of the two potentials.
-#[derive(Drop)]
+#[derive(Clone, Copy)]
 pub enum StableSpot {
     LiquidSearch(DensitySpot),
     VaporSearch {
@@ -78,7 +78,7 @@ pub enum StableSpot {
     },
 }
 
-#[derive(Drop)]
+#[derive(Clone, Copy)]
 pub enum StablePlace {
     Ended(Phase),
     At(StableSpot),

@@ -1,4 +1,6 @@
 // A job of a request block, one evaluation at a time. specs/ has the definitions, proofs/Laws.antt what holds of every job.
+#![tactic(auto)]
+
 mod answers;
 mod jobs;
 mod types;

@@ -2,14 +2,14 @@
 use solver::Values;
 
 // A job refused by its data, or the search that it makes.
-#[derive(Drop)]
+#[derive(Clone, Copy)]
 pub enum Work {
     Refused(u64),
     Search(solver_state::Job),
 }
 
 // How a job ended: the status and the floats of its record.
-#[derive(Drop)]
+#[derive(Clone, Copy)]
 pub struct Ended {
     pub status: u64,
     pub values: Values,

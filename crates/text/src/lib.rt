@@ -1,4 +1,6 @@
 // Lines of text: numbers in decimal and hexadecimal, and the line that document 01's printing program writes of a record.
+#![tactic(auto)]
+
 mod digits;
 mod line;
 

@@ -1,0 +1,18 @@
+-- `block::blend::read_fractions`.
+use mathlib.Core.Path.{◌≡◌}
+use Prim.Native.Nat.{◌-◌, ◌≤◌}
+use mathlib.Core.Bool.{true}
+use Rattle.float.specs.Ops.{f0}
+use Rattle.block.specs.Lists.{tabulate, all_below}
+use Rattle.block.specs.Numbers.{floats_at}
+use Rattle.block.specs.Blend.{at as at_row}
+use Rattle.block.proofs.Lists.{upto}
+use Rattle.block.proofs.ReadLaws.{fraction_test}
+use Rattle.block.proofs.blend.read_fractions.Given as goal
+
+abbrev pub invariant-loop-i : goal.invariant-loop-i
+invariant-loop-i l =
+    (l.i ≤ l.count) × ((l.count ≤ l.n) × ((all_below l.i (fraction_test (floats_at l.count l.block l.at)) ≡ true) × (l.x ≡ tabulate 8 (upto f0 (at_row (floats_at l.count l.block l.at)) l.i))))
+
+abbrev pub decreases-loop-i : goal.decreases-loop-i
+decreases-loop-i l = l.count - l.i

@@ -1,0 +1,19 @@
+-- `board::telling::of_look`.
+use Rattle.board.specs.Answers.{looked_of, answer_of}
+use Rattle.board.proofs.telling.of_look.Goals as goal
+
+pub returns-in-BadBoard : goal.returns-in-BadBoard
+unfolding answer_of looked_of
+returns-in-BadBoard c = rw c.enum_told-1.given.1
+
+pub returns-in-BadQueue : goal.returns-in-BadQueue
+unfolding answer_of looked_of
+returns-in-BadQueue c = rw c.enum_told-in-BadQueue-1.given.1
+
+pub returns-in-NotRunning : goal.returns-in-NotRunning
+unfolding answer_of looked_of
+returns-in-NotRunning c = rw c.enum_told-in-NotRunning-1.given.1
+
+pub returns-in-Shown : goal.returns-in-Shown
+unfolding answer_of looked_of
+returns-in-Shown c = rw c.looked-1.given.1

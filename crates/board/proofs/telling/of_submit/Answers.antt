@@ -1,0 +1,31 @@
+-- `board::telling::of_submit`.
+use Rattle.board.specs.Answers.{submitted_of, answer_of}
+use Rattle.board.proofs.telling.of_submit.Goals as goal
+
+pub returns-in-BadBoard : goal.returns-in-BadBoard
+unfolding answer_of submitted_of
+returns-in-BadBoard c = rw c.enum_told-1.given.1
+
+pub returns-in-BadQueue : goal.returns-in-BadQueue
+unfolding answer_of submitted_of
+returns-in-BadQueue c = rw c.enum_told-in-BadQueue-1.given.1
+
+pub returns-in-BadKind : goal.returns-in-BadKind
+unfolding answer_of submitted_of
+returns-in-BadKind c = rw c.enum_told-in-BadKind-1.given.1
+
+pub returns-in-BadCount : goal.returns-in-BadCount
+unfolding answer_of submitted_of
+returns-in-BadCount c = rw c.enum_told-in-BadCount-1.given.1
+
+pub returns-in-BadBlockLength : goal.returns-in-BadBlockLength
+unfolding answer_of submitted_of
+returns-in-BadBlockLength c = rw c.enum_told-in-BadBlockLength-1.given.1
+
+pub returns-in-Full : goal.returns-in-Full
+unfolding answer_of submitted_of
+returns-in-Full c = rw c.enum_told-in-Full-1.given.1
+
+pub returns-in-Ticket : goal.returns-in-Ticket
+unfolding answer_of submitted_of
+returns-in-Ticket c = rw c.submitted-1.given.1

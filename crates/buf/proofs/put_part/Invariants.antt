@@ -1,0 +1,12 @@
+-- `buf::put_part`.
+use mathlib.Core.Path.{◌≡◌}
+use Prim.Native.Nat.{◌+◌, ◌-◌, ◌≤◌}
+use lib.ListN.{length, drop}
+use Rattle.buf.specs.Bytes.{splice}
+use Rattle.buf.proofs.put_part.Given as goal
+
+abbrev pub invariant-loop-i : goal.invariant-loop-i
+invariant-loop-i l = (l.i ≤ length l.b) × ((splice l.s (l.at + l.i) (drop l.i l.b) ≡ splice l.initial.s l.at l.b) × (length l.s ≡ length l.initial.s))
+
+abbrev pub decreases-loop-i : goal.decreases-loop-i
+decreases-loop-i l = length l.b - l.i

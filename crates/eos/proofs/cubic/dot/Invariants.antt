@@ -1,0 +1,13 @@
+-- `eos::cubic::dot`.
+use mathlib.Core.Path.{◌≡◌}
+use Prim.Native.Nat.{◌-◌, ◌≤◌}
+use Rattle.float.specs.Ops.{◌⊕◌, ◌⊗◌}
+use Rattle.eos.specs.Indices.{fold_from, total}
+use Rattle.eos.specs.Cubic.{nth}
+use Rattle.eos.proofs.cubic.dot.Given as goal
+
+abbrev pub invariant-loop-i : goal.invariant-loop-i
+invariant-loop-i l = (1 ≤ l.i) × (fold_from (λ l.s l.i. l.s ⊕ nth l.x l.i ⊗ nth l.y l.i) (l.n - l.i) l.i l.s ≡ total l.n (λ l.i. nth l.x l.i ⊗ nth l.y l.i))
+
+abbrev pub decreases-loop-i : goal.decreases-loop-i
+decreases-loop-i l = l.n - l.i

@@ -1,0 +1,14 @@
+-- `eos::helmholtz_4::aks`.
+use mathlib.Core.Path.{◌≡◌}
+use Prim.Native.Nat.{ℕ, ◌-◌, ◌≤◌, ◌<◌}
+use lib.ListN.{length}
+use Rattle.jet.specs.Coefficients.{Upto}
+use Rattle.eos.specs.Jets.{jet_at}
+use Rattle.eos.specs.Cubic.{nth, ak_of}
+use Rattle.eos.proofs.helmholtz_4.aks.Given as goal
+
+abbrev pub invariant-loop-i : goal.invariant-loop-i
+invariant-loop-i l = (l.i ≤ l.n) × (length l.out ≡ 8) × ((k : ℕ) → k < l.i → Upto 4 (jet_at l.out k) (ak_of l.t.c (nth l.tc k) (nth l.kappa k) (nth l.a k)))
+
+abbrev pub decreases-loop-i : goal.decreases-loop-i
+decreases-loop-i l = l.n - l.i

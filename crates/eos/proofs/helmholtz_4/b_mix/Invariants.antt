@@ -1,0 +1,14 @@
+-- `eos::helmholtz_4::b_mix`.
+use Prim.Native.Nat.{◌-◌, ◌≤◌}
+use Rattle.jet.specs.Coefficients.{Upto, number_of}
+use Rattle.jet.specs.Ops.{◌⊞◌, ◌⊠◌}
+use Rattle.eos.specs.Indices.{fold_from}
+use Rattle.eos.specs.Jets.{jet_at}
+use Rattle.eos.specs.Cubic.{nth, b_mix}
+use Rattle.eos.proofs.helmholtz_4.b_mix.Given as goal
+
+abbrev pub invariant-loop-i : goal.invariant-loop-i
+invariant-loop-i l = (1 ≤ l.i) × Upto 4 (fold_from (λ s l.i. s ⊞ jet_at l.x l.i ⊠ number_of (nth l.b l.i)) (l.n - l.i) l.i l.m.c) (b_mix l.n (jet_at l.x) (nth l.b))
+
+abbrev pub decreases-loop-i : goal.decreases-loop-i
+decreases-loop-i l = l.n - l.i

@@ -1,0 +1,10 @@
+-- `evaluations::residual::curvature_from`.
+use mathlib.Core.Path.{refl}
+use lib.Ieee.{of_int, of_bits}
+use Rattle.jet.specs.Coefficients.{factorial, factorial_of}
+use Rattle.evaluations.specs.Residual.{derived, curvature_from}
+use Rattle.evaluations.proofs.residual.curvature_from.Goals as goal
+
+pub returns : goal.returns
+unfolding curvature_from derived factorial_of factorial of_int of_bits
+returns c = refl

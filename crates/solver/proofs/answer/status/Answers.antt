@@ -1,0 +1,11 @@
+-- `solver::answer::status`.
+use Rattle.solver.specs.Answer.{status_of}
+use Rattle.solver.proofs.answer.status.Goals as goal
+
+pub returns-in-Found : goal.returns-in-Found
+unfolding status_of
+returns-in-Found c = rw c.enum_told-1.given.1
+
+pub returns-in-Refused : goal.returns-in-Refused
+unfolding status_of
+returns-in-Refused c = rw (c.answer-1.given.1, ← c.refusal_number.ensures)

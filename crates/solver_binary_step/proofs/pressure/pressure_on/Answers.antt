@@ -1,0 +1,15 @@
+-- `solver_binary_step::pressure::pressure_on`.
+use Rattle.solver_binary_step.proofs.Places.{pressure_more}
+use Rattle.solver_binary_step.specs.BinaryStep.{pressure_on}
+use Rattle.solver_binary_step.proofs.pressure.pressure_on.Goals as goal
+
+pub returns-then-rounds-eq0 : goal.returns-then-rounds-eq0
+unfolding pressure_on
+returns-then-rounds-eq0 c = rw (c.outcome-in-Next-1.given.1, c.if-rounds-eq0.true)
+
+pub returns-in-End : goal.returns-in-End
+unfolding pressure_on
+returns-in-End c = rw c.outcome-1.given.1
+
+pub returns-else-rounds-eq0 : goal.returns-else-rounds-eq0
+returns-else-rounds-eq0 c = rw c.outcome-in-Next-1.given.1 (pressure_more _ _ c.if-rounds-eq0.false)

@@ -1,0 +1,15 @@
+-- `solver_critical_step::spinodals::stability_on`.
+use Rattle.solver_critical_step.proofs.Places.{stability_more}
+use Rattle.solver_critical_step.specs.SpinodalsStep.{stability_on}
+use Rattle.solver_critical_step.proofs.spinodals.stability_on.Goals as goal
+
+pub returns-then-rounds-eq0 : goal.returns-then-rounds-eq0
+unfolding stability_on
+returns-then-rounds-eq0 c = rw (c.outcome-in-Next-1.given.1, c.if-rounds-eq0.true)
+
+pub returns-in-End : goal.returns-in-End
+unfolding stability_on
+returns-in-End c = rw c.outcome-1.given.1
+
+pub returns-else-rounds-eq0 : goal.returns-else-rounds-eq0
+returns-else-rounds-eq0 c = rw c.outcome-in-Next-1.given.1 (stability_more _ _ c.if-rounds-eq0.false)

@@ -1,0 +1,9 @@
+-- `solver_density::spinodal::branch_search`.
+use Rattle.solver_density.proofs.Runs.{branch_found, branch_refused}
+use Rattle.solver_density.proofs.spinodal.branch_search.Goals as goal
+
+pub returns-in-Found : goal.returns-in-Found
+returns-in-Found c = branch_found _ _ _ _ _ c.spinodal_search-s.result c.branch_start.ensures c.spinodal_search-s.ensures _ _ c.answer-1.given.1 c.branch_answer.ensures
+
+pub returns-in-Refused : goal.returns-in-Refused
+returns-in-Refused c = branch_refused _ _ _ _ _ c.spinodal_search-s.result c.branch_start.ensures c.spinodal_search-s.ensures _ c.answer-in-Refused-1.given.1

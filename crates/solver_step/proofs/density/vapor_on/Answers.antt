@@ -1,0 +1,15 @@
+-- `solver_step::density::vapor_on`.
+use Rattle.solver_step.specs.DensityStep.{vapor_on}
+use Rattle.solver_step.proofs.density.vapor_on.Goals as goal
+
+pub returns-in-Found : goal.returns-in-Found
+unfolding vapor_on
+returns-in-Found c = rw (c.place-1.given.1, c.answer-1.given.1, ← c.after_both.ensures, ← c.slope_at.ensures)
+
+pub returns-in-Refused : goal.returns-in-Refused
+unfolding vapor_on
+returns-in-Refused c = rw (c.place-1.given.1, c.answer-in-Ended-1.given.1)
+
+pub returns-in-At : goal.returns-in-At
+unfolding vapor_on
+returns-in-At c = rw c.place-in-At-1.given.1

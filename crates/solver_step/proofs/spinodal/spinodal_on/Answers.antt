@@ -1,0 +1,15 @@
+-- `solver_step::spinodal::spinodal_on`.
+use Rattle.solver_step.proofs.Rounds.{spinodal_more}
+use Rattle.solver_step.specs.SpinodalStep.{spinodal_on}
+use Rattle.solver_step.proofs.spinodal.spinodal_on.Goals as goal
+
+pub returns-then-rounds-eq0 : goal.returns-then-rounds-eq0
+unfolding spinodal_on
+returns-then-rounds-eq0 c = rw (c.outcome-in-Next-1.given.1, c.if-rounds-eq0.true)
+
+pub returns-in-End : goal.returns-in-End
+unfolding spinodal_on
+returns-in-End c = rw c.outcome-1.given.1
+
+pub returns-else-rounds-eq0 : goal.returns-else-rounds-eq0
+returns-else-rounds-eq0 c = spinodal_more _ _ _ c.outcome-in-Next-1.given.1 c.if-rounds-eq0.false

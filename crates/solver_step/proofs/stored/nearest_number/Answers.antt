@@ -1,0 +1,15 @@
+-- `solver_step::stored::nearest_number`.
+use Rattle.solver_step.specs.Stored.{nearest_number}
+use Rattle.solver_step.proofs.stored.nearest_number.Goals as goal
+
+pub returns-in-HighDensity : goal.returns-in-HighDensity
+unfolding nearest_number
+returns-in-HighDensity c = rw c.enum_told-1.given.1
+
+pub returns-in-AboveConvex : goal.returns-in-AboveConvex
+unfolding nearest_number
+returns-in-AboveConvex c = rw c.enum_told-in-AboveConvex-1.given.1
+
+pub returns-in-BelowConcave : goal.returns-in-BelowConcave
+unfolding nearest_number
+returns-in-BelowConcave c = rw c.enum_told-in-BelowConcave-1.given.1

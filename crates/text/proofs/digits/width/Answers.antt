@@ -1,0 +1,19 @@
+use native.Mathlib.Nat.{zero-add}
+use native.Mathlib.Omega.{arith}
+use borrow.Author.Rules.{rules}
+use Rattle.text.proofs.DigitLaws.{width_again, width_ends, width_full}
+use Rattle.text.specs.Digits.{width}
+use Rattle.text.proofs.digits.width.Goals as goal
+
+pub loop-k-init : goal.loop-k-init
+unfolding width
+loop-k-init c = (omega arith, omega arith, rw zero-add)
+
+pub returns-then-rest-lt10 : goal.returns-then-rest-lt10
+returns-then-rest-lt10 c = (width_ends c.loop-k.k _ _ c.loop-k.invariant.0 c.loop-k-test.true c.if-rest-lt10.true c.loop-k.invariant.2, search rules)
+
+pub loop-k-preserved : goal.loop-k-preserved
+loop-k-preserved c = (omega arith, omega arith, width_again c.loop-k.k _ _ c.loop-k.invariant.0 c.loop-k-test.true c.if-rest-lt10.false c.loop-k.invariant.2)
+
+pub returns : goal.returns
+returns c = (width_full c.loop-k.k _ _ c.loop-k-test.false c.loop-k.invariant.1 c.loop-k.invariant.2, search rules)
