@@ -4,7 +4,10 @@ ghost use Rattle.std.specs.Prelude.{◌≡◌, ◌+◌, ◌<◌, ◌≤◌, leng
 use crate::lines::put_named;
 use crate::saying::say_call;
 use calls::Found;
-use libc::{STDIN_FILENO, STDOUT_FILENO};
+
+const STDIN_FILENO: i32 = 0;
+
+const STDOUT_FILENO: i32 = 1;
 
 // How many bytes of the next call stand in the buffer, and how many more were read past it.
 #[derive(Clone, Copy)]

@@ -8,7 +8,8 @@ ghost use Rattle.std.specs.Prelude.{◌+◌, ◌≤◌, ◌<◌};
 
 use eos::Blend;
 use evaluations::{Condition, Criticality, Pressure, PressureCriticality, Stability};
-use libc::STDOUT_FILENO;
+
+const STDOUT_FILENO: i32 = 1;
 
 fn wide(c: u8) -> u64
     ensures { result < 256 }

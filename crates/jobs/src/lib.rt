@@ -6,7 +6,9 @@ ghost use Rattle.std.specs.Prelude.{◌≡◌, ◌≤◌, length};
 ghost use Rattle.buf.specs.Bytes.{splice};
 ghost use Rattle.jobs.specs.Line.{verdict_of, refusal_by, record_by, reply_of};
 
-use libc::{STDIN_FILENO, STDOUT_FILENO};
+const STDIN_FILENO: i32 = 0;
+
+const STDOUT_FILENO: i32 = 1;
 
 fn wide(x: u8) -> u64
     ensures { result ≡ x }

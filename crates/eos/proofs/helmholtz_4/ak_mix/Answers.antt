@@ -21,7 +21,7 @@ loop-j-init c = rw sub-zero
 
 pub mix_term-requires : goal.mix_term-requires
 mix_term-requires c =
-    root_at_lem c.args.t2 c.firsts-first.result c.roots-root.result c.args.n c.loop-i.i c.loop-j.j _ c.firsts-first.ensures c.roots-root.ensures c.root_place.ensures.0 (omega arith) (omega arith)
+    root_at_lem c.args.ak c.firsts-first.result c.roots-root.result c.args.n c.loop-i.i c.loop-j.j _ c.firsts-first.ensures c.roots-root.ensures c.root_place.ensures.0 (omega arith) (omega arith)
 
 pub loop-j-preserved : goal.loop-j-preserved
 loop-j-preserved c =

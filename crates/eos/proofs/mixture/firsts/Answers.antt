@@ -13,7 +13,7 @@ pub loop-i-preserved : goal.loop-i-preserved
 loop-i-preserved c =
     let out = c.loop-i.out in
     let i = c.loop-i.i in
-    let a = c.args.t2 in (
+    let a = c.args.a in (
       omega arith,
       length-set out i _ ∙ c.loop-i.invariant.1,
       set_turn (λ k r. r ≡ at (jet_at a k) 0) out i _ (omega arith) c.loop-i.invariant.2 refl,

@@ -1,8 +1,10 @@
 -- `float::logarithm::ln`.
-use mathlib.Core.Path.{sym, ap, ◌∙◌, subst}
+use mathlib.Core.Path.{◌≡◌, sym, ap, ◌∙◌, subst}
 use native.Mathlib.Omega.{arith}
+use borrow.Author.Rules.{rules}
 use lib.Dec.{T}
-use lib.Ieee.{inf, binary64, fits}
+use mathlib.Core.Bool.{true}
+use lib.Ieee.{Float, inf, binary64, fits}
 use lib.Ieee.Compare.{differs_from_itself}
 use lib.Ieee.Bits.{of_bits-to_bits}
 use mathlib.Core.Bool.{true}
@@ -13,8 +15,8 @@ use Rattle.float.proofs.Above.{nan_quotient, not_zero, above_nan, above_zero, ab
 use Rattle.float.proofs.LnLaws.{minus_infinity}
 use Rattle.float.proofs.logarithm.ln.Goals as goal
 
-held : (c : tie.Start) → T (fits binary64 c.args.x)
-held c = subst T (sym c.well-formed.0.1) tt
+held : (x : Float) → fits binary64 x ≡ true → T (fits binary64 x)
+held x e = subst T (sym e) tt
 
 pub returns-then-x : goal.returns-then-x
 unfolding ln_of
@@ -34,11 +36,11 @@ pub float_to_bits-b : goal.float_to_bits-b
 float_to_bits-b c = same_no_nan c.args.x c.if-x.false
 
 pub of_bits-requires : goal.of_bits-requires
-of_bits-requires c = let n = not_zero c.args.x (held c) c.if-x-3.false in (omega arith, c.if-b-lt-INFINITY_BITS.true)
+of_bits-requires c = let n = not_zero c.args.x (held c.args.x (search rules)) c.if-x-3.false in (omega arith, c.if-b-lt-INFINITY_BITS.true)
 
 pub returns-then-b-lt-INFINITY_BITS : goal.returns-then-b-lt-INFINITY_BITS
-returns-then-b-lt-INFINITY_BITS c = c.of_bits.ensures ∙ ap ln_of (of_bits-to_bits binary64 c.args.x (held c))
+returns-then-b-lt-INFINITY_BITS c = c.of_bits.ensures ∙ ap ln_of (of_bits-to_bits binary64 c.args.x (held c.args.x (search rules)))
 
 pub returns : goal.returns
 unfolding ln_of
-returns c = sym (above_infinite (λ c e. inf true) ln_units c.args.x (held c) c.if-x-2.false c.if-x-3.false c.if-b-lt-INFINITY_BITS.false)
+returns c = sym (above_infinite (λ c e. inf true) ln_units c.args.x (held c.args.x (search rules)) c.if-x-2.false c.if-x-3.false c.if-b-lt-INFINITY_BITS.false)

@@ -1,9 +1,11 @@
 -- `float::root::sqrt`.
-use mathlib.Core.Path.{sym, ap, ◌∙◌, subst}
+use mathlib.Core.Path.{◌≡◌, sym, ap, ◌∙◌, subst}
 use native.Mathlib.Nat.{le_of_lt}
 use native.Mathlib.Omega.{arith}
+use borrow.Author.Rules.{rules}
 use lib.Dec.{T}
-use lib.Ieee.{fin, binary64, fits}
+use mathlib.Core.Bool.{true}
+use lib.Ieee.{Float, fin, binary64, fits}
 use lib.Ieee.Compare.{differs_from_itself}
 use lib.Ieee.Bits.{of_bits-to_bits}
 use Rattle.float.specs.Root.{root_of, root}
@@ -14,8 +16,8 @@ use Rattle.float.proofs.Above.{nan_quotient, not_zero, above_nan, above_zero, ab
 use Rattle.float.proofs.root.sqrt.Goals as goal
 
 -- what owning an `f64` tells: the format holds it, so its pattern stands for it
-held : (c : tie.Start) → T (fits binary64 c.args.x)
-held c = subst T (sym c.well-formed.0.1) tt
+held : (x : Float) → fits binary64 x ≡ true → T (fits binary64 x)
+held x e = subst T (sym e) tt
 
 pub returns-then-x : goal.returns-then-x
 unfolding root
@@ -35,14 +37,14 @@ pub float_to_bits-b : goal.float_to_bits-b
 float_to_bits-b c = same_no_nan c.args.x c.if-x.false
 
 pub root_bits-requires : goal.root_bits-requires
-root_bits-requires c = let n = not_zero c.args.x (held c) c.if-x-3.false in (omega arith, c.if-b-lt-INFINITY_BITS.true)
+root_bits-requires c = let n = not_zero c.args.x (held c.args.x (search rules)) c.if-x-3.false in (omega arith, c.if-b-lt-INFINITY_BITS.true)
 
 pub float_from_bits-result : goal.float_from_bits-result
 float_from_bits-result c = positive_no_nan c.root_bits.result (le_of_lt c.root_bits.ensures.1)
 
 pub returns-then-b-lt-INFINITY_BITS : goal.returns-then-b-lt-INFINITY_BITS
-returns-then-b-lt-INFINITY_BITS c = c.root_bits.ensures.0 ∙ ap root (of_bits-to_bits binary64 c.args.x (held c))
+returns-then-b-lt-INFINITY_BITS c = c.root_bits.ensures.0 ∙ ap root (of_bits-to_bits binary64 c.args.x (held c.args.x (search rules)))
 
 pub returns : goal.returns
 unfolding root
-returns c = sym (above_infinite (λ c e. fin c 0 e) root_of c.args.x (held c) c.if-x-2.false c.if-x-3.false c.if-b-lt-INFINITY_BITS.false)
+returns c = sym (above_infinite (λ c e. fin c 0 e) root_of c.args.x (held c.args.x (search rules)) c.if-x-2.false c.if-x-3.false c.if-b-lt-INFINITY_BITS.false)

@@ -9,8 +9,8 @@ loop-m-init c = (omega arith, fill_start _)
 
 pub loop-m-preserved : goal.loop-m-preserved
 loop-m-preserved c =
-    (omega arith, fill_turn (sum_at c.args.t1.c c.args.t2.c) (λ m c d h. refl) c.loop-m.m _ c.loop-m.c (omega arith) c.loop-m.invariant.1 refl)
+    (omega arith, fill_turn (sum_at c.args.a.c c.args.b.c) (λ m c d h. refl) c.loop-m.m _ c.loop-m.c (omega arith) c.loop-m.invariant.1 refl)
 
 pub returns : goal.returns
 unfolding sum_of
-returns c = fill_end (sum_at c.args.t1.c c.args.t2.c) c.loop-m.m _ (omega arith) c.loop-m.invariant.1
+returns c = fill_end (sum_at c.args.a.c c.args.b.c) c.loop-m.m _ (omega arith) c.loop-m.invariant.1

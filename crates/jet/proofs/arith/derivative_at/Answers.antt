@@ -1,4 +1,5 @@
 -- `jet::arith::derivative_at`.
+use mathlib.Core.List.{[]}
 use Rattle.jet.proofs.ByE0.{from_fourth, with_e0, free_of_e0}
 use Rattle.jet.proofs.arith.derivative_at.Goals as goal
 

@@ -9,8 +9,8 @@ loop-m-init c = (omega arith, fill_start _)
 
 pub loop-m-preserved : goal.loop-m-preserved
 loop-m-preserved c =
-    (omega arith, fill_turn (negation_at c.args.t1.c) (λ m c d h. refl) c.loop-m.m _ c.loop-m.c (omega arith) c.loop-m.invariant.1 refl)
+    (omega arith, fill_turn (negation_at c.args.a.c) (λ m c d h. refl) c.loop-m.m _ c.loop-m.c (omega arith) c.loop-m.invariant.1 refl)
 
 pub returns : goal.returns
 unfolding negation_of
-returns c = fill_end (negation_at c.args.t1.c) c.loop-m.m _ (omega arith) c.loop-m.invariant.1
+returns c = fill_end (negation_at c.args.a.c) c.loop-m.m _ (omega arith) c.loop-m.invariant.1

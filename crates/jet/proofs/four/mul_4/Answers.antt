@@ -5,4 +5,4 @@ use Rattle.jet.proofs.four.mul_4.Goals as goal
 
 pub returns : goal.returns
 returns c =
-    c.along.ensures ∙ sym (product_along c.args.t1.c c.args.t2.c)
+    c.along.ensures ∙ sym (product_along c.args.a.c c.args.b.c)

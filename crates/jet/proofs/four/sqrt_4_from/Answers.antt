@@ -5,4 +5,4 @@ use Rattle.jet.proofs.four.sqrt_4_from.Goals as goal
 
 pub returns : goal.returns
 returns c =
-    c.along.ensures ∙ sym (root_along c.args.t2.c c.args.r0 c.requires)
+    c.along.ensures ∙ sym (root_along c.args.a.c c.args.r0 c.requires)
