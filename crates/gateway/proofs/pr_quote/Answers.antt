@@ -8,4 +8,4 @@ pub returns-in_default : goal.returns-in_default
 returns-in_default c = (c.number.ensures ∙ ap number_of c.tell_quote-told.ensures, turns_kept _ _ c.tell_quote-told.ensures _ c.in_default.keys2)
 
 pub returns : goal.returns
-returns c = turns_said _ _ c.tell_quote-told.ensures _ _ c.told-1.given.1
+returns c = turns_said _ _ c.tell_quote-told.ensures _ _ c.in-Quoted.is

@@ -12,4 +12,4 @@ returns-in_default c = (
 )
 
 pub returns : goal.returns
-returns c = let s = ticket_said _ _ c.tell_submit-told.ensures.0 _ _ c.told-1.given.1 in (s.0, c.tell_submit-told.ensures.1, s.1)
+returns c = let s = ticket_said _ _ c.tell_submit-told.ensures.0 _ _ c.in-Ticket.is in (s.0, c.tell_submit-told.ensures.1, s.1)

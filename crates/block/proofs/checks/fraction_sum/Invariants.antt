@@ -8,7 +8,7 @@ use Rattle.block.specs.Checks.{fraction_sum}
 use Rattle.block.proofs.checks.fraction_sum.Given as goal
 
 abbrev pub invariant-loop-i : goal.invariant-loop-i
-invariant-loop-i l = (1 ≤ l.i) × (fold_from (λ l.s l.i. l.s ⊕ at l.x l.i) (l.n - l.i) l.i l.s ≡ fraction_sum l.n l.x)
+invariant-loop-i l = (1 ≤ l.i) × (fold_from (λ s i. s ⊕ at l.x i) (l.n - l.i) l.i l.s ≡ fraction_sum l.n l.x)
 
 abbrev pub decreases-loop-i : goal.decreases-loop-i
 decreases-loop-i l = l.n - l.i

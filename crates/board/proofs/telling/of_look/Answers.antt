@@ -4,16 +4,16 @@ use Rattle.board.proofs.telling.of_look.Goals as goal
 
 pub returns-in-BadBoard : goal.returns-in-BadBoard
 unfolding answer_of looked_of
-returns-in-BadBoard c = rw c.enum_told-1.given.1
+returns-in-BadBoard c = rw c.in-BadBoard.is
 
 pub returns-in-BadQueue : goal.returns-in-BadQueue
 unfolding answer_of looked_of
-returns-in-BadQueue c = rw c.enum_told-in-BadQueue-1.given.1
+returns-in-BadQueue c = rw c.in-BadQueue.is
 
 pub returns-in-NotRunning : goal.returns-in-NotRunning
 unfolding answer_of looked_of
-returns-in-NotRunning c = rw c.enum_told-in-NotRunning-1.given.1
+returns-in-NotRunning c = rw c.in-NotRunning.is
 
 pub returns-in-Shown : goal.returns-in-Shown
 unfolding answer_of looked_of
-returns-in-Shown c = rw c.looked-1.given.1
+returns-in-Shown c = rw c.in-Shown.is

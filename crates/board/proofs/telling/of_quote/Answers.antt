@@ -4,20 +4,20 @@ use Rattle.board.proofs.telling.of_quote.Goals as goal
 
 pub returns-in-BadBoard : goal.returns-in-BadBoard
 unfolding answer_of quoted_of
-returns-in-BadBoard c = rw c.enum_told-1.given.1
+returns-in-BadBoard c = rw c.in-BadBoard.is
 
 pub returns-in-BadQueue : goal.returns-in-BadQueue
 unfolding answer_of quoted_of
-returns-in-BadQueue c = rw c.enum_told-in-BadQueue-1.given.1
+returns-in-BadQueue c = rw c.in-BadQueue.is
 
 pub returns-in-BadKind : goal.returns-in-BadKind
 unfolding answer_of quoted_of
-returns-in-BadKind c = rw c.enum_told-in-BadKind-1.given.1
+returns-in-BadKind c = rw c.in-BadKind.is
 
 pub returns-in-Full : goal.returns-in-Full
 unfolding answer_of quoted_of
-returns-in-Full c = rw c.enum_told-in-Full-1.given.1
+returns-in-Full c = rw c.in-Full.is
 
 pub returns-in-Turns : goal.returns-in-Turns
 unfolding answer_of quoted_of
-returns-in-Turns c = rw c.quoted-1.given.1
+returns-in-Turns c = rw c.in-Turns.is

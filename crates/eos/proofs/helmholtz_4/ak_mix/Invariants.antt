@@ -8,13 +8,13 @@ use Rattle.eos.specs.Cubic.{nth, mix_term, mix_row, ak_mix}
 use Rattle.eos.proofs.helmholtz_4.ak_mix.Given as goal
 
 abbrev pub invariant-loop-j : goal.invariant-loop-j
-invariant-loop-j l = Upto 4 (fold_from (λ l.m l.j. l.m ⊞ mix_term (jet_at l.ak l.i) (jet_at l.ak l.j) (jet_at l.x l.i) (jet_at l.x l.j) (nth l.k (8 * l.i + l.j))) (l.n - l.j) l.j l.m.c) (mix_row l.n (jet_at l.ak) (jet_at l.x) (λ l.i l.j. nth l.k (8 * l.i + l.j)) l.i l.initial.m.c)
+invariant-loop-j l = Upto 4 (fold_from (λ m j. m ⊞ mix_term (jet_at l.ak l.i) (jet_at l.ak j) (jet_at l.x l.i) (jet_at l.x j) (nth l.k (8 * l.i + j))) (l.n - l.j) l.j l.m.c) (mix_row l.n (jet_at l.ak) (jet_at l.x) (λ i j. nth l.k (8 * i + j)) l.i l.initial.m.c)
 
 abbrev pub decreases-loop-j : goal.decreases-loop-j
 decreases-loop-j l = l.n - l.j
 
 abbrev pub invariant-loop-i : goal.invariant-loop-i
-invariant-loop-i l = Upto 4 (fold_from (λ l.m l.i. mix_row l.n (jet_at l.ak) (jet_at l.x) (λ l.i j. nth l.k (8 * l.i + j)) l.i l.m) (l.n - l.i) l.i l.m.c) (ak_mix l.n (jet_at l.ak) (jet_at l.x) (λ l.i j. nth l.k (8 * l.i + j)))
+invariant-loop-i l = Upto 4 (fold_from (λ m i. mix_row l.n (jet_at l.ak) (jet_at l.x) (λ i j. nth l.k (8 * i + j)) i m) (l.n - l.i) l.i l.m.c) (ak_mix l.n (jet_at l.ak) (jet_at l.x) (λ i j. nth l.k (8 * i + j)))
 
 abbrev pub decreases-loop-i : goal.decreases-loop-i
 decreases-loop-i l = l.n - l.i

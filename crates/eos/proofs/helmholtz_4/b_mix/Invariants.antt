@@ -8,7 +8,7 @@ use Rattle.eos.specs.Cubic.{nth, b_mix}
 use Rattle.eos.proofs.helmholtz_4.b_mix.Given as goal
 
 abbrev pub invariant-loop-i : goal.invariant-loop-i
-invariant-loop-i l = (1 ≤ l.i) × Upto 4 (fold_from (λ s l.i. s ⊞ jet_at l.x l.i ⊠ number_of (nth l.b l.i)) (l.n - l.i) l.i l.m.c) (b_mix l.n (jet_at l.x) (nth l.b))
+invariant-loop-i l = (1 ≤ l.i) × Upto 4 (fold_from (λ s i. s ⊞ jet_at l.x i ⊠ number_of (nth l.b i)) (l.n - l.i) l.i l.m.c) (b_mix l.n (jet_at l.x) (nth l.b))
 
 abbrev pub decreases-loop-i : goal.decreases-loop-i
 decreases-loop-i l = l.n - l.i

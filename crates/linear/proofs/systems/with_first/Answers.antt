@@ -4,8 +4,8 @@ use Rattle.linear.proofs.systems.with_first.Goals as goal
 
 pub returns-in-Delta : goal.returns-in-Delta
 unfolding with_first
-returns-in-Delta c = rw c.lower-1.given.1
+returns-in-Delta c = rw c.in-Delta.is
 
 pub returns-in-ZeroPivot : goal.returns-in-ZeroPivot
 unfolding with_first
-returns-in-ZeroPivot c = rw c.enum_told-1.given.1
+returns-in-ZeroPivot c = rw c.in-ZeroPivot.is

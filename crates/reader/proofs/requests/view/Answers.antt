@@ -9,4 +9,4 @@ returns-in_default c =
     view_not_refused _ _ _ _ _ _ r.0 (r.1 (not_refused_left _ c.in_default.keys2)) (rw c.searched_count.ensures at c.blend-blend.ensures)
 
 pub returns : goal.returns
-returns c = c.refused.ensures ∙ view_refused _ _ _ _ (sym c.task-1.given.1 ∙ c.read-task.ensures.0)
+returns c = c.refused.ensures ∙ view_refused _ _ _ _ (sym c.in-Refused.is ∙ c.read-task.ensures.0)

@@ -4,20 +4,20 @@ use Rattle.records.proofs.requests.number.Goals as goal
 
 pub returns-in-Written : goal.returns-in-Written
 unfolding number_of
-returns-in-Written c = rw c.enum_told-1.given.1
+returns-in-Written c = rw c.in-Written.is
 
 pub returns-in-BadKind : goal.returns-in-BadKind
 unfolding number_of
-returns-in-BadKind c = rw c.enum_told-in-BadKind-1.given.1
+returns-in-BadKind c = rw c.in-BadKind.is
 
 pub returns-in-BadCount : goal.returns-in-BadCount
 unfolding number_of
-returns-in-BadCount c = rw c.enum_told-in-BadCount-1.given.1
+returns-in-BadCount c = rw c.in-BadCount.is
 
 pub returns-in-BadBlockLength : goal.returns-in-BadBlockLength
 unfolding number_of
-returns-in-BadBlockLength c = rw c.enum_told-in-BadBlockLength-1.given.1
+returns-in-BadBlockLength c = rw c.in-BadBlockLength.is
 
 pub returns-in-ShortRecord : goal.returns-in-ShortRecord
 unfolding number_of
-returns-in-ShortRecord c = rw c.enum_told-in-ShortRecord-1.given.1
+returns-in-ShortRecord c = rw c.in-ShortRecord.is

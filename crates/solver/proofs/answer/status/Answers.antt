@@ -4,8 +4,8 @@ use Rattle.solver.proofs.answer.status.Goals as goal
 
 pub returns-in-Found : goal.returns-in-Found
 unfolding status_of
-returns-in-Found c = rw c.enum_told-1.given.1
+returns-in-Found c = rw c.in-Found.is
 
 pub returns-in-Refused : goal.returns-in-Refused
 unfolding status_of
-returns-in-Refused c = rw (c.answer-1.given.1, ← c.refusal_number.ensures)
+returns-in-Refused c = rw (c.in-Refused.is, ← c.refusal_number.ensures)

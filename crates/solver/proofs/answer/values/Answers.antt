@@ -4,8 +4,8 @@ use Rattle.solver.proofs.answer.values.Goals as goal
 
 pub returns-in-Found : goal.returns-in-Found
 unfolding values_of
-returns-in-Found c = rw c.answer-1.given.1
+returns-in-Found c = rw c.in-Found.is
 
 pub returns-in-Refused : goal.returns-in-Refused
 unfolding values_of
-returns-in-Refused c = rw c.enum_told-1.given.1
+returns-in-Refused c = rw c.in-Refused.is

@@ -9,8 +9,8 @@ returns-then-not-all_finite c = rw (← c.all_finite.ensures, not-true c.all_fin
 
 pub returns-in-Delta : goal.returns-in-Delta
 unfolding round_p solved_round_p
-returns-in-Delta c = rw (← c.all_finite.ensures, not-false c.all_finite.result c.if-not-all_finite.false-raw, ← c.solved_p-delta.ensures, c.delta-1.given.1, ← c.has_converged.ensures, ← c.step_p.ensures, ← c.stepped_p.ensures)
+returns-in-Delta c = rw (← c.all_finite.ensures, not-false c.all_finite.result c.if-not-all_finite.false-raw, ← c.solved_p-delta.ensures, c.in-Delta.is, ← c.has_converged.ensures, ← c.step_p.ensures, ← c.stepped_p.ensures)
 
 pub returns-in-ZeroPivot : goal.returns-in-ZeroPivot
 unfolding round_p solved_round_p
-returns-in-ZeroPivot c = rw (← c.all_finite.ensures, not-false c.all_finite.result c.if-not-all_finite.false-raw, ← c.solved_p-delta.ensures, c.enum_told-1.given.1)
+returns-in-ZeroPivot c = rw (← c.all_finite.ensures, not-false c.all_finite.result c.if-not-all_finite.false-raw, ← c.solved_p-delta.ensures, c.in-ZeroPivot.is)

@@ -28,14 +28,14 @@ overflow_add-evaluations c = omega arith
 
 pub returns-in-End : goal.returns-in-End
 unfolding led_p run
-returns-in-End c = rw c.outcome-1.given.1 at (after_round c.before.before.before)
+returns-in-End c = rw c.in-End.is at (after_round c.before.before.before)
 
 pub loop-left-smaller : goal.loop-left-smaller
 loop-left-smaller c = omega arith
 
 pub loop-left-preserved : goal.loop-left-preserved
 unfolding led_p
-loop-left-preserved c = (omega arith, rw c.outcome-in-Next-1.given.1 at (after_round c.before.before.before))
+loop-left-preserved c = (omega arith, rw c.in-Next.is at (after_round c.before.before.before))
 
 pub returns : goal.returns
 returns c = let a = c.args in rounds_over (query_p a.pressure) (after_conditions_p a.maxdensity) _ _ _ _ _ c.loop-left-test.false c.loop-left.invariant.1

@@ -4,8 +4,8 @@ use Rattle.solver_binary.proofs.pressure.start_temperature.Goals as goal
 
 pub returns-in-None : goal.returns-in-None
 unfolding start_temperature
-returns-in-None c = rw c.enum_told-1.given.1
+returns-in-None c = rw c.in-None.is
 
 pub returns-in-Given : goal.returns-in-Given
 unfolding start_temperature
-returns-in-Given c = rw c.temperature-1.given.1
+returns-in-Given c = rw c.in-Given.is

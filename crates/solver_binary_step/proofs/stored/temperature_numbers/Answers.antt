@@ -4,8 +4,8 @@ use Rattle.solver_binary_step.proofs.stored.temperature_numbers.Goals as goal
 
 pub returns-in-Ended : goal.returns-in-Ended
 unfolding temperature_numbers
-returns-in-Ended c = rw (c.place-1.given.1, ← c.ended_numbers.ensures)
+returns-in-Ended c = rw (c.in-Ended.is, ← c.ended_numbers.ensures)
 
 pub returns-in-At : goal.returns-in-At
 unfolding temperature_numbers
-returns-in-At c = rw (c.place-in-At-1.given.1, ← c.spot_numbers.ensures)
+returns-in-At c = rw (c.in-At.is, ← c.spot_numbers.ensures)

@@ -51,16 +51,16 @@ pub trials-smaller-in-Refused : goal.trials-smaller-in-Refused
 trials-smaller-in-Refused c = omega arith
 
 pub trials-preserved-in-Refused : goal.trials-preserved-in-Refused
-trials-preserved-in-Refused c = let L = c.loop-left in (L.invariant.0, L.invariant.1, omega arith, trial_fails _ _ _ _ _ _ _ _ c.outcome-1.given.1 c.enum_told-1.given.1 (after_round c.before.before.before.before.before))
+trials-preserved-in-Refused c = let L = c.loop-left in (L.invariant.0, L.invariant.1, omega arith, trial_fails _ _ _ _ _ _ _ _ c.in-End.is c.in-Refused.is (after_round c.before.before.before.before.before))
 
 pub loop-left-smaller : goal.loop-left-smaller
 loop-left-smaller c = omega arith
 
 pub loop-left-preserved : goal.loop-left-preserved
-loop-left-preserved c = let L = c.loop-left in (L.invariant.0, L.invariant.1, omega arith, round_moves _ _ _ _ _ _ _ c.outcome-in-Next-1.given.1 (after_round c.before.before.before))
+loop-left-preserved c = let L = c.loop-left in (L.invariant.0, L.invariant.1, omega arith, round_moves _ _ _ _ _ _ _ c.in-Next.is (after_round c.before.before.before))
 
 pub returns-after-trials : goal.returns-after-trials
 returns-after-trials c = let T = c.trials in trials_over _ _ _ T.trial _ _ _ c.trials-test.false T.invariant.0 T.invariant.3
 
 pub returns-in-Found : goal.returns-in-Found
-returns-in-Found c = trial_found _ _ _ _ _ _ _ _ c.outcome-1.given.1 c.end-1.given.1 (after_round c.before.before.before.before.before.before)
+returns-in-Found c = trial_found _ _ _ _ _ _ _ _ c.in-End.is c.in-Found.is (after_round c.before.before.before.before.before.before)

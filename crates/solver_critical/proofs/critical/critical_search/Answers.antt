@@ -4,8 +4,8 @@ use Rattle.solver_critical.proofs.critical.critical_search.Goals as goal
 
 pub returns-in-None : goal.returns-in-None
 unfolding critical_point from_temperature
-returns-in-None c = rw (c.enum_told-1.given.1, ← c.start_density-rho.ensures) c.by_trials.ensures
+returns-in-None c = rw (c.in-None.is, ← c.start_density-rho.ensures) c.by_trials.ensures
 
 pub returns-in-Given : goal.returns-in-Given
 unfolding critical_point from_temperature
-returns-in-Given c = rw (c.temperature-1.given.1, ← c.start_density-rho.ensures) c.critical_point_hkm.ensures
+returns-in-Given c = rw (c.in-Given.is, ← c.start_density-rho.ensures) c.critical_point_hkm.ensures

@@ -4,8 +4,8 @@ use Rattle.solver_critical.proofs.critical.start_density.Goals as goal
 
 pub returns-in-None : goal.returns-in-None
 unfolding start_density
-returns-in-None c = rw c.enum_told-1.given.1
+returns-in-None c = rw c.in-None.is
 
 pub returns-in-Given : goal.returns-in-Given
 unfolding start_density
-returns-in-Given c = rw c.density-1.given.1
+returns-in-Given c = rw c.in-Given.is

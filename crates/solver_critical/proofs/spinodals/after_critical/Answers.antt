@@ -10,8 +10,8 @@ overflow_add-result c = let v = part_most _ 50 _ c.calculate_spinodal-s.result (
 
 pub returns-in-Found : goal.returns-in-Found
 unfolding after_critical
-returns-in-Found c = then_found _ _ _ c.calculate_spinodal-s.result _ c.after_vapor-l.result c.calculate_spinodal-s.ensures c.answer-1.given.1 c.after_vapor-l.ensures
+returns-in-Found c = then_found _ _ _ c.calculate_spinodal-s.result _ c.after_vapor-l.result c.calculate_spinodal-s.ensures c.in-Found.is c.after_vapor-l.ensures
 
 pub returns-in-Refused : goal.returns-in-Refused
 unfolding after_critical
-returns-in-Refused c = then_refused _ _ _ c.calculate_spinodal-s.result _ c.calculate_spinodal-s.ensures c.answer-in-Refused-1.given.1
+returns-in-Refused c = then_refused _ _ _ c.calculate_spinodal-s.result _ c.calculate_spinodal-s.ensures c.in-Refused.is

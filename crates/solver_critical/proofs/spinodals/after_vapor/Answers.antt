@@ -5,8 +5,8 @@ use Rattle.solver_critical.proofs.spinodals.after_vapor.Goals as goal
 
 pub returns-in-Found : goal.returns-in-Found
 unfolding after_vapor after_liquid
-returns-in-Found c = rw (← c.liquid_start-rho.ensures, c.both_answer.ensures) (then_done _ _ (λ l. both_answer _ l.first) c.calculate_spinodal-s.result _ c.calculate_spinodal-s.ensures c.answer-1.given.1)
+returns-in-Found c = rw (← c.liquid_start-rho.ensures, c.both_answer.ensures) (then_done _ _ (λ l. both_answer _ l.first) c.calculate_spinodal-s.result _ c.calculate_spinodal-s.ensures c.in-Found.is)
 
 pub returns-in-Refused : goal.returns-in-Refused
 unfolding after_vapor
-returns-in-Refused c = rw (← c.liquid_start-rho.ensures) (then_refused _ _ _ c.calculate_spinodal-s.result _ c.calculate_spinodal-s.ensures c.answer-in-Refused-1.given.1)
+returns-in-Refused c = rw (← c.liquid_start-rho.ensures) (then_refused _ _ _ c.calculate_spinodal-s.result _ c.calculate_spinodal-s.ensures c.in-Refused.is)

@@ -10,8 +10,8 @@ overflow_add-result c = let a = part_most _ 150 _ c.critical_search-s.result (cr
 
 pub returns-in-Found : goal.returns-in-Found
 unfolding spinodal
-returns-in-Found c = then_found _ _ _ c.critical_search-s.result _ c.after_critical-both.result c.critical_search-s.ensures c.answer-1.given.1 c.after_critical-both.ensures
+returns-in-Found c = then_found _ _ _ c.critical_search-s.result _ c.after_critical-both.result c.critical_search-s.ensures c.in-Found.is c.after_critical-both.ensures
 
 pub returns-in-Refused : goal.returns-in-Refused
 unfolding spinodal
-returns-in-Refused c = then_refused _ _ _ c.critical_search-s.result _ c.critical_search-s.ensures c.answer-in-Refused-1.given.1
+returns-in-Refused c = then_refused _ _ _ c.critical_search-s.result _ c.critical_search-s.ensures c.in-Refused.is

@@ -4,12 +4,12 @@ use Rattle.solver_critical.proofs.spinodals.spinodal_start.Goals as goal
 
 pub returns-in-Vapor : goal.returns-in-Vapor
 unfolding spinodal_start
-returns-in-Vapor c = rw c.enum_told-1.given.1
+returns-in-Vapor c = rw c.in-Vapor.is
 
 pub returns-in-Liquid : goal.returns-in-Liquid
 unfolding spinodal_start
-returns-in-Liquid c = rw c.enum_told-in-Liquid-1.given.1
+returns-in-Liquid c = rw c.in-Liquid.is
 
 pub returns-in-InitialDensity : goal.returns-in-InitialDensity
 unfolding spinodal_start
-returns-in-InitialDensity c = rw c.initial-1.given.1
+returns-in-InitialDensity c = rw c.in-InitialDensity.is

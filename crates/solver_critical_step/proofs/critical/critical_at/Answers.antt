@@ -4,8 +4,8 @@ use Rattle.solver_critical_step.proofs.critical.critical_at.Goals as goal
 
 pub returns-in-Given : goal.returns-in-Given
 unfolding critical_at
-returns-in-Given c = rw c.spot-1.given.1
+returns-in-Given c = rw c.in-Given.is
 
 pub returns-in-Trial : goal.returns-in-Trial
 unfolding critical_at
-returns-in-Trial c = rw c.spot-in-Trial-1.given.1
+returns-in-Trial c = rw c.in-Trial.is

@@ -4,8 +4,8 @@ use Rattle.solver_critical_step.proofs.critical.critical_begin.Goals as goal
 
 pub returns-in-None : goal.returns-in-None
 unfolding critical_begin
-returns-in-None c = rw (c.enum_told-1.given.1, ← c.trial_at.ensures)
+returns-in-None c = rw (c.in-None.is, ← c.trial_at.ensures)
 
 pub returns-in-Given : goal.returns-in-Given
 unfolding critical_begin
-returns-in-Given c = rw (c.temperature-1.given.1, ← c.hkm_start.ensures)
+returns-in-Given c = rw (c.in-Given.is, ← c.hkm_start.ensures)

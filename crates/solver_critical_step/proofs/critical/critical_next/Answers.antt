@@ -4,8 +4,8 @@ use Rattle.solver_critical_step.proofs.critical.critical_next.Goals as goal
 
 pub returns-in-Given : goal.returns-in-Given
 unfolding critical_next
-returns-in-Given c = rw (c.spot-1.given.1, ← c.hkm_next.ensures, ← c.given_on.ensures)
+returns-in-Given c = rw (c.in-Given.is, ← c.hkm_next.ensures, ← c.given_on.ensures)
 
 pub returns-in-Trial : goal.returns-in-Trial
 unfolding critical_next
-returns-in-Trial c = rw (c.spot-in-Trial-1.given.1, ← c.hkm_next-in-Trial.ensures, ← c.trial_on.ensures)
+returns-in-Trial c = rw (c.in-Trial.is, ← c.hkm_next-in-Trial.ensures, ← c.trial_on.ensures)

@@ -4,12 +4,12 @@ use Rattle.solver_critical_step.proofs.critical.trial_on.Goals as goal
 
 pub returns-in-Found : goal.returns-in-Found
 unfolding trial_on
-returns-in-Found c = rw (c.place-1.given.1, c.answer-1.given.1)
+returns-in-Found c = rw (c.in-Ended.is, c.in-Found.is)
 
 pub returns-in-Refused : goal.returns-in-Refused
 unfolding trial_on
-returns-in-Refused c = rw (c.place-1.given.1, c.enum_told-1.given.1, ← c.next_trial.ensures)
+returns-in-Refused c = rw (c.in-Ended.is, c.in-Refused.is, ← c.next_trial.ensures)
 
 pub returns-in-At : goal.returns-in-At
 unfolding trial_on
-returns-in-At c = rw c.place-in-At-1.given.1
+returns-in-At c = rw c.in-At.is

@@ -4,12 +4,12 @@ use Rattle.solver_critical_step.proofs.spinodals.spinodals_at.Goals as goal
 
 pub returns-in-CriticalSearch : goal.returns-in-CriticalSearch
 unfolding spinodals_at
-returns-in-CriticalSearch c = rw (c.spot-1.given.1, ← c.critical_at.ensures)
+returns-in-CriticalSearch c = rw (c.in-CriticalSearch.is, ← c.critical_at.ensures)
 
 pub returns-in-VaporSpinodal : goal.returns-in-VaporSpinodal
 unfolding spinodals_at
-returns-in-VaporSpinodal c = rw c.spot-in-VaporSpinodal-1.given.1
+returns-in-VaporSpinodal c = rw c.in-VaporSpinodal.is
 
 pub returns-in-LiquidSpinodal : goal.returns-in-LiquidSpinodal
 unfolding spinodals_at
-returns-in-LiquidSpinodal c = rw c.spot-in-LiquidSpinodal-1.given.1
+returns-in-LiquidSpinodal c = rw c.in-LiquidSpinodal.is

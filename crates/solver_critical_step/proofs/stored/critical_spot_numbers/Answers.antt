@@ -4,8 +4,8 @@ use Rattle.solver_critical_step.proofs.stored.critical_spot_numbers.Goals as goa
 
 pub returns-in-Given : goal.returns-in-Given
 unfolding critical_spot_numbers
-returns-in-Given c = rw (c.spot-1.given.1, ← c.spot_numbers.ensures)
+returns-in-Given c = rw (c.in-Given.is, ← c.spot_numbers.ensures)
 
 pub returns-in-Trial : goal.returns-in-Trial
 unfolding critical_spot_numbers
-returns-in-Trial c = rw (c.spot-in-Trial-1.given.1, ← c.spot_numbers-in-Trial.ensures)
+returns-in-Trial c = rw (c.in-Trial.is, ← c.spot_numbers-in-Trial.ensures)

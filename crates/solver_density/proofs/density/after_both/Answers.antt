@@ -4,24 +4,24 @@ use Rattle.solver_density.proofs.density.after_both.Goals as goal
 
 pub returns-then-below : goal.returns-then-below
 unfolding after_both
-returns-then-below c = rw (c.enum_told-1.given.1, ← c.is_negative-below.ensures, c.if-below.true, ← c.min-beyond_liquid.ensures)
+returns-then-below c = rw (c.in-BelowConvex.is, ← c.is_negative-below.ensures, c.if-below.true, ← c.min-beyond_liquid.ensures)
 
 pub returns-then-to_vapor-to_liquid : goal.returns-then-to_vapor-to_liquid
 unfolding after_both
-returns-then-to_vapor-to_liquid c = rw (c.enum_told-1.given.1, ← c.is_negative-below.ensures, c.if-below.false, ← c.abs-to_vapor.ensures, ← c.abs-to_liquid.ensures, c.if-to_vapor-to_liquid.true)
+returns-then-to_vapor-to_liquid c = rw (c.in-BelowConvex.is, ← c.is_negative-below.ensures, c.if-below.false, ← c.abs-to_vapor.ensures, ← c.abs-to_liquid.ensures, c.if-to_vapor-to_liquid.true)
 
 pub returns-then-to_vapor-to_liquid-2 : goal.returns-then-to_vapor-to_liquid-2
 unfolding after_both
-returns-then-to_vapor-to_liquid-2 c = rw (c.enum_told-in-AboveConcave-1.given.1, ← c.is_negative-below.ensures, c.if-below-2.true, ← c.abs-to_vapor.ensures, ← c.abs-to_liquid.ensures, c.if-to_vapor-to_liquid-2.true, ← c.min-beyond_liquid.ensures)
+returns-then-to_vapor-to_liquid-2 c = rw (c.in-AboveConcave.is, ← c.is_negative-below.ensures, c.if-below-2.true, ← c.abs-to_vapor.ensures, ← c.abs-to_liquid.ensures, c.if-to_vapor-to_liquid-2.true, ← c.min-beyond_liquid.ensures)
 
 pub returns-then-below-2 : goal.returns-then-below-2
 unfolding after_both
-returns-then-below-2 c = rw (c.enum_told-in-AboveConcave-1.given.1, ← c.is_negative-below.ensures, c.if-below-2.true, ← c.abs-to_vapor.ensures, ← c.abs-to_liquid.ensures, c.if-to_vapor-to_liquid-2.false)
+returns-then-below-2 c = rw (c.in-AboveConcave.is, ← c.is_negative-below.ensures, c.if-below-2.true, ← c.abs-to_vapor.ensures, ← c.abs-to_liquid.ensures, c.if-to_vapor-to_liquid-2.false)
 
 pub returns-else-to_vapor-to_liquid : goal.returns-else-to_vapor-to_liquid
 unfolding after_both
-returns-else-to_vapor-to_liquid c = rw (c.enum_told-1.given.1, ← c.is_negative-below.ensures, c.if-below.false, ← c.abs-to_vapor.ensures, ← c.abs-to_liquid.ensures, c.if-to_vapor-to_liquid.false, ← c.min-beyond_liquid.ensures)
+returns-else-to_vapor-to_liquid c = rw (c.in-BelowConvex.is, ← c.is_negative-below.ensures, c.if-below.false, ← c.abs-to_vapor.ensures, ← c.abs-to_liquid.ensures, c.if-to_vapor-to_liquid.false, ← c.min-beyond_liquid.ensures)
 
 pub returns-else-below-2 : goal.returns-else-below-2
 unfolding after_both
-returns-else-below-2 c = rw (c.enum_told-in-AboveConcave-1.given.1, ← c.is_negative-below.ensures, c.if-below-2.false)
+returns-else-below-2 c = rw (c.in-AboveConcave.is, ← c.is_negative-below.ensures, c.if-below-2.false)

@@ -10,8 +10,8 @@ overflow_add-result c = let l = part_most _ 30 _ c.branch_search-s.result (branc
 
 pub returns-in-Found : goal.returns-in-Found
 unfolding detour
-returns-in-Found c = then_found _ _ _ c.branch_search-s.result _ c.by_vapor-v.result c.branch_search-s.ensures c.answer-1.given.1 c.by_vapor-v.ensures
+returns-in-Found c = then_found _ _ _ c.branch_search-s.result _ c.by_vapor-v.result c.branch_search-s.ensures c.in-Found.is c.by_vapor-v.ensures
 
 pub returns-in-Refused : goal.returns-in-Refused
 unfolding detour
-returns-in-Refused c = then_refused _ _ _ c.branch_search-s.result _ c.branch_search-s.ensures c.answer-in-Refused-1.given.1
+returns-in-Refused c = then_refused _ _ _ c.branch_search-s.result _ c.branch_search-s.ensures c.in-Refused.is

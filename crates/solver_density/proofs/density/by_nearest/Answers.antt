@@ -5,8 +5,8 @@ use Rattle.solver_density.proofs.density.by_nearest.Goals as goal
 
 pub returns-in-Found : goal.returns-in-Found
 unfolding detour
-returns-in-Found c = rw c.after_nearest.ensures (then_done _ _ (after_nearest c.args.c c.args.way) c.spinodal_search-s.result _ c.spinodal_search-s.ensures c.answer-1.given.1)
+returns-in-Found c = rw c.after_nearest.ensures (then_done _ _ (after_nearest c.args.c c.args.way) c.spinodal_search-s.result _ c.spinodal_search-s.ensures c.in-Found.is)
 
 pub returns-in-Refused : goal.returns-in-Refused
 unfolding detour
-returns-in-Refused c = then_refused _ _ _ c.spinodal_search-s.result _ c.spinodal_search-s.ensures c.answer-in-Refused-1.given.1
+returns-in-Refused c = then_refused _ _ _ c.spinodal_search-s.result _ c.spinodal_search-s.ensures c.in-Refused.is

@@ -5,8 +5,8 @@ use Rattle.solver_density.proofs.density.by_vapor.Goals as goal
 
 pub returns-in-Found : goal.returns-in-Found
 unfolding vapor
-returns-in-Found c = let a = c.args in rw (c.found_density.ensures, c.after_both.ensures) (then_done _ _ (λ v. density (after_both a.c a.way a.liquid v)) c.branch_search-s.result _ c.branch_search-s.ensures c.answer-1.given.1)
+returns-in-Found c = let a = c.args in rw (c.found_density.ensures, c.after_both.ensures) (then_done _ _ (λ v. density (after_both a.c a.way a.liquid v)) c.branch_search-s.result _ c.branch_search-s.ensures c.in-Found.is)
 
 pub returns-in-Refused : goal.returns-in-Refused
 unfolding vapor
-returns-in-Refused c = then_refused _ _ _ c.branch_search-s.result _ c.branch_search-s.ensures c.answer-in-Refused-1.given.1
+returns-in-Refused c = then_refused _ _ _ c.branch_search-s.result _ c.branch_search-s.ensures c.in-Refused.is

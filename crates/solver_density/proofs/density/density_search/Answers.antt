@@ -19,16 +19,16 @@ returns-then-start c = rw c.if-start.true
 
 pub returns-in-NotFinite : goal.returns-in-NotFinite
 unfolding slope_led run
-returns-in-NotFinite c = rw c.enum_told-1.given.1 at (after_slope_lem c.before.before)
+returns-in-NotFinite c = rw c.in-NotFinite.is at (after_slope_lem c.before.before)
 
 pub returns-in-Converged : goal.returns-in-Converged
 unfolding slope_led run
-returns-in-Converged c = rw c.found_density.ensures (rw c.outcome-1.given.1 at (after_slope_lem c.before.before.before.before))
+returns-in-Converged c = rw c.found_density.ensures (rw c.in-Converged.is at (after_slope_lem c.before.before.before.before))
 
 pub returns-in-Next : goal.returns-in-Next
 unfolding slope_led
-returns-in-Next c = c.iterate.ensures ∙ rw c.outcome-in-Next-1.given.1 at (after_slope_lem c.before.before.before.before)
+returns-in-Next c = c.iterate.ensures ∙ rw c.in-Next.is at (after_slope_lem c.before.before.before.before)
 
 pub returns-in-Unstable : goal.returns-in-Unstable
 unfolding slope_led
-returns-in-Unstable c = let a = c.args in (c.iterate-in-Unstable.ensures ∙ ap (λ (x : Float). ran a.blend 1 (density_from a.c 50 x)) c.correct.ensures) ∙ rw c.enum_told-in-Unstable-1.given.1 at (after_slope_lem c.before.before.before.before)
+returns-in-Unstable c = let a = c.args in (c.iterate-in-Unstable.ensures ∙ ap (λ (x : Float). ran a.blend 1 (density_from a.c 50 x)) c.correct.ensures) ∙ rw c.in-Unstable.is at (after_slope_lem c.before.before.before.before)

@@ -2,7 +2,7 @@
 use Rattle.solver_density.proofs.density.detour.Goals as goal
 
 pub returns-in-ByNearest : goal.returns-in-ByNearest
-returns-in-ByNearest c = rw c.way-1.given.1 c.by_nearest.ensures
+returns-in-ByNearest c = rw c.in-ByNearest.is c.by_nearest.ensures
 
 pub returns-in-ByBoth : goal.returns-in-ByBoth
-returns-in-ByBoth c = rw c.way-in-ByBoth-1.given.1 c.by_both.ensures
+returns-in-ByBoth c = rw c.in-ByBoth.is c.by_both.ensures

@@ -30,18 +30,18 @@ overflow_add-evaluations c = omega arith
 
 pub returns-in-NotFinite : goal.returns-in-NotFinite
 unfolding slope_led run
-returns-in-NotFinite c = rw c.enum_told-1.given.1 at (after_slope_lem c.before.before)
+returns-in-NotFinite c = rw c.in-NotFinite.is at (after_slope_lem c.before.before)
 
 pub returns-in-Converged : goal.returns-in-Converged
 unfolding slope_led run
-returns-in-Converged c = rw c.found_density.ensures (rw c.outcome-1.given.1 at (after_slope_lem c.before.before.before.before))
+returns-in-Converged c = rw c.found_density.ensures (rw c.in-Converged.is at (after_slope_lem c.before.before.before.before))
 
 pub iteration-smaller-in-Next : goal.iteration-smaller-in-Next
 iteration-smaller-in-Next c = omega arith
 
 pub iteration-preserved-in-Next : goal.iteration-preserved-in-Next
 unfolding slope_led
-iteration-preserved-in-Next c = (omega arith, rw c.outcome-in-Next-1.given.1 at (after_slope_lem c.before.before.before))
+iteration-preserved-in-Next c = (omega arith, rw c.in-Next.is at (after_slope_lem c.before.before.before))
 
 pub overflow_add-evaluations-in-Unstable : goal.overflow_add-evaluations-in-Unstable
 overflow_add-evaluations-in-Unstable c = let m = most c.before in omega arith
@@ -51,11 +51,11 @@ iteration-smaller c = omega arith
 
 pub iteration-preserved : goal.iteration-preserved
 unfolding slope_led
-iteration-preserved c = let m = most c in (omega arith, part_found _ _ _ _ c.unstable-d.result _ c.unstable-d.ensures c.answer-1.given.1 ∙ rw c.outcome-in-Unstable-1.given.1 at (after_slope_lem c.before.before.before.before))
+iteration-preserved c = let m = most c in (omega arith, part_found _ _ _ _ c.unstable-d.result _ c.unstable-d.ensures c.in-Found.is ∙ rw c.in-Unstable.is at (after_slope_lem c.before.before.before.before))
 
 pub returns-in-Refused : goal.returns-in-Refused
 unfolding slope_led
-returns-in-Refused c = part_refused _ _ _ _ c.unstable-d.result _ c.unstable-d.ensures c.answer-in-Refused-1.given.1 ∙ rw c.outcome-in-Unstable-1.given.1 at (after_slope_lem c.before.before.before.before)
+returns-in-Refused c = part_refused _ _ _ _ c.unstable-d.result _ c.unstable-d.ensures c.in-Refused.is ∙ rw c.in-Unstable.is at (after_slope_lem c.before.before.before.before)
 
 pub returns : goal.returns
 returns c = density_over _ _ _ _ _ _ c.iteration-test.false c.iteration.invariant.1

@@ -4,12 +4,12 @@ use Rattle.solver_density.proofs.density.start_of.Goals as goal
 
 pub returns-in-Vapor : goal.returns-in-Vapor
 unfolding start_of
-returns-in-Vapor c = rw c.enum_told-1.given.1
+returns-in-Vapor c = rw c.in-Vapor.is
 
 pub returns-in-Liquid : goal.returns-in-Liquid
 unfolding start_of
-returns-in-Liquid c = rw c.enum_told-in-Liquid-1.given.1
+returns-in-Liquid c = rw c.in-Liquid.is
 
 pub returns-in-InitialDensity : goal.returns-in-InitialDensity
 unfolding start_of
-returns-in-InitialDensity c = rw c.initial-1.given.1
+returns-in-InitialDensity c = rw c.in-InitialDensity.is

@@ -4,8 +4,8 @@ use Rattle.solver_density.proofs.spinodal.on_branch.Goals as goal
 
 pub returns-in-Liquid : goal.returns-in-Liquid
 unfolding on_branch
-returns-in-Liquid c = rw c.enum_told-1.given.1
+returns-in-Liquid c = rw c.in-Liquid.is
 
 pub returns-in-Vapor : goal.returns-in-Vapor
 unfolding on_branch
-returns-in-Vapor c = rw c.enum_told-in-Vapor-1.given.1
+returns-in-Vapor c = rw c.in-Vapor.is

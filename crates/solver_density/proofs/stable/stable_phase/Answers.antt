@@ -5,16 +5,16 @@ use Rattle.solver_density.proofs.stable.stable_phase.Goals as goal
 
 pub returns-in-Found-vapor : goal.returns-in-Found-vapor
 unfolding stable_phase run
-returns-in-Found-vapor c = rw (c.liquid-1.given.1, c.vapor-1.given.1, ← c.potentials.ensures)
+returns-in-Found-vapor c = rw (c.in-Found.is, c.in-Found-vapor.is, ← c.potentials.ensures)
 
 pub returns-in-Refused-vapor : goal.returns-in-Refused-vapor
 unfolding stable_phase run
-returns-in-Refused-vapor c = rw (c.liquid-1.given.1, c.enum_told-1.given.1)
+returns-in-Refused-vapor c = rw (c.in-Found.is, c.in-Refused-vapor.is)
 
 pub returns-in-Found-vapor-2 : goal.returns-in-Found-vapor-2
 unfolding stable_phase run
-returns-in-Found-vapor-2 c = rw (c.enum_told-in-Refused-1.given.1, c.vapor-in-Refused-1.given.1)
+returns-in-Found-vapor-2 c = rw (c.in-Refused.is, c.in-Found-vapor-2.is)
 
 pub returns-in-Refused-vapor-2 : goal.returns-in-Refused-vapor-2
 unfolding stable_phase run
-returns-in-Refused-vapor-2 c = rw (c.enum_told-in-Refused-1.given.1, c.enum_told-in-Refused-vapor-2-1.given.1)
+returns-in-Refused-vapor-2 c = rw (c.in-Refused.is, c.in-Refused-vapor-2.is)

@@ -4,8 +4,8 @@ use Rattle.solver_state.proofs.state.critical_step.Goals as goal
 
 pub returns-in-Ended : goal.returns-in-Ended
 unfolding critical_step
-returns-in-Ended c = rw (← c.critical_place_by-place.ensures, c.enum_told-1.given.1)
+returns-in-Ended c = rw (← c.critical_place_by-place.ensures, c.in-Ended.is)
 
 pub returns-in-At : goal.returns-in-At
 unfolding critical_step
-returns-in-At c = rw (← c.critical_place_by-place.ensures, c.place-1.given.1, ← c.critical_next-next.ensures, ← c.critical_numbers.ensures, ← c.critical_at.ensures)
+returns-in-At c = rw (← c.critical_place_by-place.ensures, c.in-At.is, ← c.critical_next-next.ensures, ← c.critical_numbers.ensures, ← c.critical_at.ensures)

@@ -4,8 +4,8 @@ use Rattle.solver_state.proofs.state.spinodals_step.Goals as goal
 
 pub returns-in-Ended : goal.returns-in-Ended
 unfolding spinodals_step
-returns-in-Ended c = rw (← c.spinodals_place_by-place.ensures, c.enum_told-1.given.1)
+returns-in-Ended c = rw (← c.spinodals_place_by-place.ensures, c.in-Ended.is)
 
 pub returns-in-At : goal.returns-in-At
 unfolding spinodals_step
-returns-in-At c = rw (← c.spinodals_place_by-place.ensures, c.place-1.given.1, ← c.spinodals_next-next.ensures, ← c.spinodals_numbers.ensures, ← c.spinodals_at.ensures)
+returns-in-At c = rw (← c.spinodals_place_by-place.ensures, c.in-At.is, ← c.spinodals_next-next.ensures, ← c.spinodals_numbers.ensures, ← c.spinodals_at.ensures)

@@ -4,8 +4,8 @@ use Rattle.solver_state.proofs.state.temperature_step.Goals as goal
 
 pub returns-in-Ended : goal.returns-in-Ended
 unfolding temperature_step
-returns-in-Ended c = rw (← c.temperature_place_by-place.ensures, c.enum_told-1.given.1)
+returns-in-Ended c = rw (← c.temperature_place_by-place.ensures, c.in-Ended.is)
 
 pub returns-in-At : goal.returns-in-At
 unfolding temperature_step
-returns-in-At c = rw (← c.temperature_place_by-place.ensures, c.place-1.given.1, ← c.temperature_next-next.ensures, ← c.temperature_numbers.ensures, ← c.temperature_at.ensures)
+returns-in-At c = rw (← c.temperature_place_by-place.ensures, c.in-At.is, ← c.temperature_next-next.ensures, ← c.temperature_numbers.ensures, ← c.temperature_at.ensures)

@@ -4,12 +4,12 @@ use Rattle.solver_step.proofs.density.nearest_on.Goals as goal
 
 pub returns-in-Found : goal.returns-in-Found
 unfolding nearest_on
-returns-in-Found c = rw (c.place-1.given.1, c.answer-1.given.1, ← c.after_nearest.ensures, ← c.arrived_at.ensures)
+returns-in-Found c = rw (c.in-Ended.is, c.in-Found.is, ← c.after_nearest.ensures, ← c.arrived_at.ensures)
 
 pub returns-in-Refused : goal.returns-in-Refused
 unfolding nearest_on
-returns-in-Refused c = rw (c.place-1.given.1, c.answer-in-Ended-1.given.1)
+returns-in-Refused c = rw (c.in-Ended.is, c.in-Refused.is)
 
 pub returns-in-At : goal.returns-in-At
 unfolding nearest_on
-returns-in-At c = rw c.place-in-At-1.given.1
+returns-in-At c = rw c.in-At.is

@@ -4,8 +4,8 @@ use Rattle.solver_step.proofs.density.phase_answer.Goals as goal
 
 pub returns-in-Found : goal.returns-in-Found
 unfolding phase_answer
-returns-in-Found c = rw (c.phase-1.given.1, ← c.found_density.ensures)
+returns-in-Found c = rw (c.in-Found.is, ← c.found_density.ensures)
 
 pub returns-in-Failed : goal.returns-in-Failed
 unfolding phase_answer
-returns-in-Failed c = rw c.phase-in-Failed-1.given.1
+returns-in-Failed c = rw c.in-Failed.is

@@ -5,16 +5,16 @@ use Rattle.solver_step.proofs.stable.stable_next.Goals as goal
 
 pub returns-in-LiquidSearch : goal.returns-in-LiquidSearch
 unfolding stable_next evaluated
-returns-in-LiquidSearch c = rw (c.spot-1.given.1, ← c.conditions-c.ensures, ← c.density_next.ensures, ← c.liquid_search_on.ensures)
+returns-in-LiquidSearch c = rw (c.in-LiquidSearch.is, ← c.conditions-c.ensures, ← c.density_next.ensures, ← c.liquid_search_on.ensures)
 
 pub returns-in-VaporSearch : goal.returns-in-VaporSearch
 unfolding stable_next evaluated
-returns-in-VaporSearch c = rw (c.spot-in-VaporSearch-1.given.1, ← c.conditions-c-in-VaporSearch.ensures, ← c.density_next-in-VaporSearch.ensures, ← c.vapor_search_on.ensures)
+returns-in-VaporSearch c = rw (c.in-VaporSearch.is, ← c.conditions-c-in-VaporSearch.ensures, ← c.density_next-in-VaporSearch.ensures, ← c.vapor_search_on.ensures)
 
 pub returns-in-LiquidPotential : goal.returns-in-LiquidPotential
 unfolding stable_next evaluated
-returns-in-LiquidPotential c = rw (c.spot-in-LiquidPotential-1.given.1, ← c.chemical_potential.ensures, ← c.liquid_potential_on.ensures)
+returns-in-LiquidPotential c = rw (c.in-LiquidPotential.is, ← c.chemical_potential.ensures, ← c.liquid_potential_on.ensures)
 
 pub returns-in-VaporPotential : goal.returns-in-VaporPotential
 unfolding stable_next evaluated
-returns-in-VaporPotential c = rw (c.spot-in-VaporPotential-1.given.1, ← c.chemical_potential-in-VaporPotential.ensures, ← c.vapor_potential_on.ensures)
+returns-in-VaporPotential c = rw (c.in-VaporPotential.is, ← c.chemical_potential-in-VaporPotential.ensures, ← c.vapor_potential_on.ensures)

@@ -4,8 +4,8 @@ use Rattle.solver_step.proofs.stable.vapor_search_on.Goals as goal
 
 pub returns-in-Ended : goal.returns-in-Ended
 unfolding vapor_search_on
-returns-in-Ended c = rw (c.place-1.given.1, ← c.phases_on.ensures)
+returns-in-Ended c = rw (c.in-Ended.is, ← c.phases_on.ensures)
 
 pub returns-in-At : goal.returns-in-At
 unfolding vapor_search_on
-returns-in-At c = rw c.place-in-At-1.given.1
+returns-in-At c = rw c.in-At.is

@@ -4,8 +4,8 @@ use Rattle.solver_step.proofs.stored.both_number.Goals as goal
 
 pub returns-in-BelowConvex : goal.returns-in-BelowConvex
 unfolding both_number
-returns-in-BelowConvex c = rw c.enum_told-1.given.1
+returns-in-BelowConvex c = rw c.in-BelowConvex.is
 
 pub returns-in-AboveConcave : goal.returns-in-AboveConcave
 unfolding both_number
-returns-in-AboveConcave c = rw c.enum_told-in-AboveConcave-1.given.1
+returns-in-AboveConcave c = rw c.in-AboveConcave.is

@@ -10,4 +10,4 @@ returns-in_default c = sym (no_number _ (not_refused_left _ c.in_default.keys2))
 
 pub returns : goal.returns
 unfolding refusal_of
-returns c = sym (ap refusal_of c.task-1.given.1) ∙ ap (λ (job : Job). refusal_of job.task) c.view-job.ensures
+returns c = sym (ap refusal_of c.in-Refused.is) ∙ ap (λ (job : Job). refusal_of job.task) c.view-job.ensures
