@@ -27,8 +27,8 @@ pub loop-j-preserved : goal.loop-j-preserved
 loop-j-preserved c =
     let a = c.args in
     let n = a.n in
-    let ak = a.t2 in
-    let x = a.t3 in
+    let ak = a.ak in
+    let x = a.x in
     let k = a.k.now in
     let i = c.loop-i.i in
     let j = c.loop-j.j in
@@ -40,8 +40,8 @@ pub loop-i-preserved : goal.loop-i-preserved
 loop-i-preserved c =
     let a = c.args in
     let n = a.n in
-    let ak = a.t2 in
-    let x = a.t3 in
+    let ak = a.ak in
+    let x = a.x in
     let k = a.k.now in
     let i = c.loop-i.i in
     let row = upto_end 4 (λ m j. m ⊞ mix_term (jet_at ak i) (jet_at ak j) (jet_at x i) (jet_at x j) (nth k (8 * i + j))) (adding_keeps 4 (λ j. mix_term (jet_at ak i) (jet_at ak j) (jet_at x i) (jet_at x j) (nth k (8 * i + j)))) n c.loop-j.j c.loop-j.m.c (mix_row n (jet_at ak) (jet_at x) (λ i j. nth k (8 * i + j)) i c.loop-i.m.c) (omega arith) c.loop-j.invariant in
@@ -51,7 +51,7 @@ pub returns : goal.returns
 returns c =
     let a = c.args in
     let n = a.n in
-    let ak = a.t2 in
-    let x = a.t3 in
+    let ak = a.ak in
+    let x = a.x in
     let k = a.k.now in
     upto_end 4 (λ m i. mix_row n (jet_at ak) (jet_at x) (λ i j. nth k (8 * i + j)) i m) (row_keeps 4 n (jet_at ak) (jet_at x) (λ i j. nth k (8 * i + j))) n c.loop-i.i c.loop-i.m.c (ak_mix n (jet_at ak) (jet_at x) (λ i j. nth k (8 * i + j))) (omega arith) c.loop-i.invariant

@@ -15,7 +15,7 @@ pub loop-i-init : goal.loop-i-init
 unfolding b_mix jet_total
 loop-i-init c =
     let a = c.args in
-    let x = a.t2 in
+    let x = a.x in
     let b = a.b.now in
     let first = mul_upto 4 (jet_at x 0) (jet_at x 0) _ refl _ (number_of (nth b 0)) (is 4 c.number.ensures) (mul_along _ _ _ c.mul_4-m.ensures) in
     (omega arith, fold_keeps 4 (λ s i. s ⊞ jet_at x i ⊠ number_of (nth b i)) (adding_keeps 4 (λ i. jet_at x i ⊠ number_of (nth b i))) (a.n - 1) 1 _ _ first)
@@ -23,7 +23,7 @@ loop-i-init c =
 pub loop-i-preserved : goal.loop-i-preserved
 loop-i-preserved c =
     let a = c.args in
-    let x = a.t2 in
+    let x = a.x in
     let b = a.b.now in
     let i = c.loop-i.i in
     let term = mul_upto 4 (jet_at x i) (jet_at x i) _ refl _ (number_of (nth b i)) (is 4 c.number-in-loop-i.ensures) (mul_along _ _ _ c.mul_4.ensures) in
@@ -33,6 +33,6 @@ loop-i-preserved c =
 pub returns : goal.returns
 returns c =
     let a = c.args in
-    let x = a.t2 in
+    let x = a.x in
     let b = a.b.now in
     upto_end 4 (λ s i. s ⊞ jet_at x i ⊠ number_of (nth b i)) (adding_keeps 4 (λ i. jet_at x i ⊠ number_of (nth b i))) a.n c.loop-i.i c.loop-i.m.c (b_mix a.n (jet_at x) (nth b)) (omega arith) c.loop-i.invariant.1

@@ -17,7 +17,7 @@ loop-i-preserved c =
     let i = c.loop-i.i in (
       omega arith,
       length-set c.loop-i.out i _ ∙ c.loop-i.invariant.1,
-      put_turn (λ k r. Upto 4 r (jet_at a.t2 k ⧄ a.d.c)) c.loop-i.out i _ (omega arith) c.loop-i.invariant.2 (div_upto 4 (jet_at a.t2 i) (jet_at a.t2 i) _ refl a.d.c a.d.c refl (div_along _ _ _ c.div_4.ensures)),
+      put_turn (λ k r. Upto 4 r (jet_at a.a k ⧄ a.d.c)) c.loop-i.out i _ (omega arith) c.loop-i.invariant.2 (div_upto 4 (jet_at a.a i) (jet_at a.a i) _ refl a.d.c a.d.c refl (div_along _ _ _ c.div_4.ensures)),
     )
 
 pub returns : goal.returns
