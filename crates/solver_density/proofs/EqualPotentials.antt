@@ -25,4 +25,4 @@ pub equal_potentials : (ev : Evaluator) (n : ℕ) (t : Float) (liquid vapor : Va
     → finite_of (ev (potential t vapor.first)) ≡ true → eq (ev (potential t liquid.first)) (ev (potential t vapor.first)) ≡ true
     → run finite_of ev n (potentials t liquid vapor) ≡ record { answer = Found liquid; evaluations = n + 1 + 1 }
 unfolding run potentials vapor_potential
-equal_potentials ev n t liquid vapor fl fv e = rw (run_tested, fl, run_tested, fv, equal_give_liquid liquid vapor (ev (potential t liquid.first)) (ev (potential t vapor.first)) e)
+equal_potentials ev n t liquid vapor fl fv e = rw (run_tested finite_of ev (n + 1) _ _, fl, run_tested finite_of ev (n + 1 + 1) _ _, fv, equal_give_liquid liquid vapor (ev (potential t liquid.first)) (ev (potential t vapor.first)) e)

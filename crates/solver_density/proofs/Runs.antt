@@ -117,16 +117,16 @@ module _ (b : Blend) (c : Conditions) where
 module _ (b : Blend) (t : Float) (l v : Values) (μl : Float) (el : μl ≡ chemical_potential b t l.first) where
   pub liquid_infinite : finite_of μl ≡ false → record { answer = Refused NotFinite; evaluations = 1 } ≡ ran b 0 (potentials t l v)
   unfolding run potentials evaluated
-  liquid_infinite f = rw (run_tested, ← el, f)
+  liquid_infinite f = rw (run_tested finite_of (evaluated b) 1 _ _, ← el, f)
 
   module _ (fl : finite_of μl ≡ true) (μv : Float) (ev : μv ≡ chemical_potential b t v.first) where
     pub vapor_infinite : finite_of μv ≡ false → record { answer = Refused NotFinite; evaluations = 2 } ≡ ran b 0 (potentials t l v)
     unfolding run potentials vapor_potential evaluated
-    vapor_infinite f = rw (run_tested, ← el, fl, run_tested, ← ev, f)
+    vapor_infinite f = rw (run_tested finite_of (evaluated b) 1 _ _, ← el, fl, run_tested finite_of (evaluated b) 2 _ _, ← ev, f)
 
     pub potentials_found : (a : Answer) → finite_of μv ≡ true → a ≡ lower_potential l v μl μv → record { answer = a; evaluations = 2 } ≡ ran b 0 (potentials t l v)
     unfolding run potentials vapor_potential evaluated
-    potentials_found a f ea = rw (run_tested, ← el, fl, run_tested, ← ev, f, ea)
+    potentials_found a f ea = rw (run_tested finite_of (evaluated b) 1 _ _, ← el, fl, run_tested finite_of (evaluated b) 2 _ _, ← ev, f, ea)
 
 module _ (b : Blend) (maxdensity t p : Float) (l : Ran) (el : l ≡ ran b 0 (density_iteration maxdensity t p Liquid)) where
   after_liquid_lem : ran b l.evaluations (after_liquid maxdensity t p l.answer) ≡ ran b 0 (density_iteration_stable maxdensity t p)

@@ -90,7 +90,7 @@ loop-j-preserved c =
           place_next A.n i L.j L.place L.invariant.0 e,
           (
             all_more (interaction_test row) L.place L.invariant.1.1.1.0 (ap finite_of (sym r) ∙ sym c.is_finite_at.ensures ∙ not-false _ c.if-not-is_finite_at.false-raw),
-            matrix_more A.n row L.k-ij i L.j _ L.invariant.0 h (omega arith) (c.get_finite-k.ensures ∙ r ∙ ap (at_row row) e) L.invariant.1.1.1.1,
+            matrix_more A.n row L.k_ij i L.j _ L.invariant.0 h (omega arith) (c.get_finite-k.ensures ∙ r ∙ ap (at_row row) e) L.invariant.1.1.1.1,
           ),
         ),
       ),

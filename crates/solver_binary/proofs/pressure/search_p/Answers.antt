@@ -10,13 +10,6 @@ use Rattle.solver_binary.specs.CriticalPointBinary.{after_conditions_p, query_p,
 use Rattle.solver_binary.specs.Rounds.{round_p}
 use Rattle.solver_binary.proofs.pressure.search_p.Goals as goal
 
--- what is left to run after a round
-after_round : (c : tie.After-round-p invariant-loop decreases-loop) → let L = c.before.before.before in let a = L.before.args in
-    ran a.blend (L.loop.evaluations + 1) (led_p c.round-p.result (search_p a.maxdensity a.pressure (L.loop.left - 1))) ≡ ran a.blend 0 (search_p a.maxdensity a.pressure 200 a.start)
-unfolding evaluated
-after_round c = let L = c.before.before.before in let a = L.before.args in
-    rounds_turn (query_p a.pressure) (after_conditions_p a.maxdensity) led_p (round_p a.maxdensity) (round_led_p a.maxdensity) a.blend _ L.loop.left L.loop.evaluations _ _ _ c.before.before.loop-test.true c.before.criticality-conditions-p.ensures c.round-p.ensures L.loop.invariant.1
-
 pub loop-left-init : goal.loop-left-init
 loop-left-init c = (omega arith, refl)
 
@@ -27,15 +20,21 @@ pub overflow_add-evaluations : goal.overflow_add-evaluations
 overflow_add-evaluations c = omega arith
 
 pub returns-in-End : goal.returns-in-End
-unfolding led_p run
-returns-in-End c = rw c.in-End.is at (after_round c.before.before.before)
+unfolding led_p run evaluated
+returns-in-End c =
+    let after_round : ran c.args.blend (c.loop-left.evaluations + 1) (led_p c.round_p-outcome.result (search_p c.args.maxdensity c.args.pressure (c.loop-left.left - 1))) ≡ ran c.args.blend 0 (search_p c.args.maxdensity c.args.pressure 200 c.args.start) =
+      rounds_turn (query_p c.args.pressure) (after_conditions_p c.args.maxdensity) led_p (round_p c.args.maxdensity) (round_led_p c.args.maxdensity) c.args.blend _ c.loop-left.left c.loop-left.evaluations _ _ _ c.loop-left-test.true c.criticality_conditions_p-y.ensures c.round_p-outcome.ensures c.loop-left.invariant.1 in
+    rw c.in-End.is at after_round
 
 pub loop-left-smaller : goal.loop-left-smaller
 loop-left-smaller c = omega arith
 
 pub loop-left-preserved : goal.loop-left-preserved
-unfolding led_p
-loop-left-preserved c = (omega arith, rw c.in-Next.is at (after_round c.before.before.before))
+unfolding led_p evaluated
+loop-left-preserved c =
+    let after_round : ran c.args.blend (c.loop-left.evaluations + 1) (led_p c.round_p-outcome.result (search_p c.args.maxdensity c.args.pressure (c.loop-left.left - 1))) ≡ ran c.args.blend 0 (search_p c.args.maxdensity c.args.pressure 200 c.args.start) =
+      rounds_turn (query_p c.args.pressure) (after_conditions_p c.args.maxdensity) led_p (round_p c.args.maxdensity) (round_led_p c.args.maxdensity) c.args.blend _ c.loop-left.left c.loop-left.evaluations _ _ _ c.loop-left-test.true c.criticality_conditions_p-y.ensures c.round_p-outcome.ensures c.loop-left.invariant.1 in
+    (omega arith, rw c.in-Next.is at after_round)
 
 pub returns : goal.returns
 returns c = let a = c.args in rounds_over (query_p a.pressure) (after_conditions_p a.maxdensity) _ _ _ _ _ c.loop-left-test.false c.loop-left.invariant.1

@@ -8,12 +8,6 @@ use Rattle.solver_critical.proofs.Settles.{led}
 use Rattle.solver_critical.specs.CriticalPoint.{critical_point_hkm, hkm_from}
 use Rattle.solver_critical.proofs.critical.critical_point_hkm.Goals as goal
 
--- what is left to run after a round
-after_round : (c : tie.After-critical-round invariant-loop decreases-loop) → let L = c.before.before.before in let a = L.before.args in
-    ran a.blend (L.loop.evaluations + 1) (led c.critical-round.result (hkm_from a.maxdensity (L.loop.left - 1))) ≡ ran a.blend 0 (critical_point_hkm a.maxdensity a.t a.rho)
-after_round c = let L = c.before.before.before in
-    hkm_turn _ _ _ L.loop.left L.loop.evaluations _ _ _ c.before.before.loop-test.true c.before.criticality-conditions.ensures c.critical-round.ensures L.loop.invariant.1
-
 pub loop-left-init : goal.loop-left-init
 unfolding critical_point_hkm
 loop-left-init c = (omega arith, refl)
@@ -26,14 +20,20 @@ overflow_add-evaluations c = omega arith
 
 pub returns-in-End : goal.returns-in-End
 unfolding led run
-returns-in-End c = rw c.in-End.is at (after_round c.before.before.before)
+returns-in-End c =
+    let after_round : ran c.args.blend (c.loop-left.evaluations + 1) (led c.critical_round-outcome.result (hkm_from c.args.maxdensity (c.loop-left.left - 1))) ≡ ran c.args.blend 0 (critical_point_hkm c.args.maxdensity c.args.t c.args.rho) =
+    hkm_turn _ _ _ c.loop-left.left c.loop-left.evaluations _ _ _ c.loop-left-test.true c.criticality_conditions-y.ensures c.critical_round-outcome.ensures c.loop-left.invariant.1 in
+    rw c.in-End.is at after_round
 
 pub loop-left-smaller : goal.loop-left-smaller
 loop-left-smaller c = omega arith
 
 pub loop-left-preserved : goal.loop-left-preserved
 unfolding led
-loop-left-preserved c = (omega arith, rw c.in-Next.is at (after_round c.before.before.before))
+loop-left-preserved c =
+    let after_round : ran c.args.blend (c.loop-left.evaluations + 1) (led c.critical_round-outcome.result (hkm_from c.args.maxdensity (c.loop-left.left - 1))) ≡ ran c.args.blend 0 (critical_point_hkm c.args.maxdensity c.args.t c.args.rho) =
+    hkm_turn _ _ _ c.loop-left.left c.loop-left.evaluations _ _ _ c.loop-left-test.true c.criticality_conditions-y.ensures c.critical_round-outcome.ensures c.loop-left.invariant.1 in
+    (omega arith, rw c.in-Next.is at after_round)
 
 pub returns : goal.returns
 returns c = hkm_over _ _ _ _ _ _ c.loop-left-test.false c.loop-left.invariant.1

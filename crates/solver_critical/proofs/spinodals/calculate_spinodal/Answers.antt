@@ -8,13 +8,6 @@ use Rattle.solver_critical.proofs.Settles.{stability_led}
 use Rattle.solver_critical.specs.Spinodal.{calculate_spinodal, spinodal_from}
 use Rattle.solver_critical.proofs.spinodals.calculate_spinodal.Goals as goal
 
--- what is left to run after a round
-after_round : (c : tie.After-stability-round invariant-loop decreases-loop) → let L = c.before.before.before in let a = L.before.before.args in
-    ran a.blend (L.loop.evaluations + 1) (stability_led c.stability-round.result (spinodal_from a.maxdensity a.temperature (L.loop.left - 1)))
-    ≡ ran a.blend 0 (spinodal_from a.maxdensity a.temperature 50 L.before.spinodal-start.result)
-after_round c = let L = c.before.before.before in
-    stability_turn _ _ _ _ L.loop.left L.loop.evaluations _ _ _ c.before.before.loop-test.true c.before.stability-condition.ensures c.stability-round.ensures L.loop.invariant.1
-
 pub loop-left-init : goal.loop-left-init
 loop-left-init c = (omega arith, refl)
 
@@ -26,14 +19,20 @@ overflow_add-evaluations c = omega arith
 
 pub returns-in-End : goal.returns-in-End
 unfolding stability_led run calculate_spinodal
-returns-in-End c = rw (← c.spinodal_start-rho.ensures) (rw c.in-End.is at (after_round c.before.before.before))
+returns-in-End c =
+    let after_round : ran c.args.blend (c.loop-left.evaluations + 1) (stability_led c.stability_round-outcome.result (spinodal_from c.args.maxdensity c.args.temperature (c.loop-left.left - 1))) ≡ ran c.args.blend 0 (spinodal_from c.args.maxdensity c.args.temperature 50 c.spinodal_start-rho.result) =
+    stability_turn _ _ _ _ c.loop-left.left c.loop-left.evaluations _ _ _ c.loop-left-test.true c.stability_condition-y.ensures c.stability_round-outcome.ensures c.loop-left.invariant.1 in
+    rw (← c.spinodal_start-rho.ensures) (rw c.in-End.is at after_round)
 
 pub loop-left-smaller : goal.loop-left-smaller
 loop-left-smaller c = omega arith
 
 pub loop-left-preserved : goal.loop-left-preserved
 unfolding stability_led
-loop-left-preserved c = (omega arith, rw c.in-Next.is at (after_round c.before.before.before))
+loop-left-preserved c =
+    let after_round : ran c.args.blend (c.loop-left.evaluations + 1) (stability_led c.stability_round-outcome.result (spinodal_from c.args.maxdensity c.args.temperature (c.loop-left.left - 1))) ≡ ran c.args.blend 0 (spinodal_from c.args.maxdensity c.args.temperature 50 c.spinodal_start-rho.result) =
+    stability_turn _ _ _ _ c.loop-left.left c.loop-left.evaluations _ _ _ c.loop-left-test.true c.stability_condition-y.ensures c.stability_round-outcome.ensures c.loop-left.invariant.1 in
+    (omega arith, rw c.in-Next.is at after_round)
 
 pub returns : goal.returns
 unfolding calculate_spinodal

@@ -9,31 +9,44 @@ use Rattle.solver_density.proofs.Spans.{density_3101, phase_2}
 use Rattle.solver_density.specs.Density.{density_iteration}
 use Rattle.solver_density.proofs.stable.density_iteration_stable.Goals as goal
 
--- the two phases' searches
-is_liquid : (c : tie.After-density-search) → let a = c.before.before.before.args in
-    c.density-search.result ≡ ran a.blend 0 (density_iteration c.before.before.compute-max-density.result a.temperature a.pressure Liquid)
-unfolding density_iteration
-is_liquid c = rw (← c.before.conditions.ensures) c.density-search.ensures
-
-is_vapor : (c : tie.After-density-search2) → let m = c.before.before.before.before.before in let a = m.before.args in
-    c.density-search2.result ≡ ran a.blend 0 (density_iteration m.compute-max-density.result a.temperature a.pressure Vapor)
-unfolding density_iteration
-is_vapor c = rw (← c.before.conditions2.ensures) c.density-search2.ensures
-
-most : (c : tie.After-density-search) → c.density-search.result.evaluations ≤ 3101
-most c = part_most _ 3101 _ c.density-search.result (density_3101 _ _ _ _) (is_liquid c)
-
-most_2 : (c : tie.After-density-search2) → c.density-search2.result.evaluations ≤ 3101
-most_2 c = part_most _ 3101 _ c.density-search2.result (density_3101 _ _ _ _) (is_vapor c)
-
 pub overflow_add-result : goal.overflow_add-result
-overflow_add-result c = let m = most c.before.before.before.before.before.before in let n = most_2 c.before.before.before in omega arith
+unfolding density_iteration
+overflow_add-result c =
+    let is_vapor : c.density_search-vapor.result ≡ ran c.args.blend 0 (density_iteration c.compute_max_density-maxdensity.result c.args.temperature c.args.pressure Vapor) =
+    rw (← c.conditions-of_vapor.ensures) c.density_search-vapor.ensures in
+    let is_liquid : c.density_search-liquid.result ≡ ran c.args.blend 0 (density_iteration c.compute_max_density-maxdensity.result c.args.temperature c.args.pressure Liquid) =
+    rw (← c.conditions-of_liquid.ensures) c.density_search-liquid.ensures in
+    let most_2 : c.density_search-vapor.result.evaluations ≤ 3101 =
+    part_most _ 3101 _ c.density_search-vapor.result (density_3101 _ _ _ _) is_vapor in
+    let most : c.density_search-liquid.result.evaluations ≤ 3101 =
+    part_most _ 3101 _ c.density_search-liquid.result (density_3101 _ _ _ _) is_liquid in
+    let m = most in let n = most_2 in omega arith
 
 pub overflow_add-result-then-pressure-maxdensity : goal.overflow_add-result-then-pressure-maxdensity
-overflow_add-result-then-pressure-maxdensity c = let m = most c.before.before.before.before.before.before.before in let n = most_2 c.before.before.before.before in let k = part_most _ 2 _ c.stable_phase-stable.result (phase_2 _ _ _) c.stable_phase-stable.ensures in omega arith
+unfolding density_iteration
+overflow_add-result-then-pressure-maxdensity c =
+    let is_vapor : c.density_search-vapor.result ≡ ran c.args.blend 0 (density_iteration c.compute_max_density-maxdensity.result c.args.temperature c.args.pressure Vapor) =
+    rw (← c.conditions-of_vapor.ensures) c.density_search-vapor.ensures in
+    let is_liquid : c.density_search-liquid.result ≡ ran c.args.blend 0 (density_iteration c.compute_max_density-maxdensity.result c.args.temperature c.args.pressure Liquid) =
+    rw (← c.conditions-of_liquid.ensures) c.density_search-liquid.ensures in
+    let most_2 : c.density_search-vapor.result.evaluations ≤ 3101 =
+    part_most _ 3101 _ c.density_search-vapor.result (density_3101 _ _ _ _) is_vapor in
+    let most : c.density_search-liquid.result.evaluations ≤ 3101 =
+    part_most _ 3101 _ c.density_search-liquid.result (density_3101 _ _ _ _) is_liquid in
+    let m = most in let n = most_2 in let k = part_most _ 2 _ c.stable_phase-stable.result (phase_2 _ _ _) c.stable_phase-stable.ensures in omega arith
 
 pub returns-then-pressure-maxdensity : goal.returns-then-pressure-maxdensity
-returns-then-pressure-maxdensity c = rw (← c.compute_max_density-maxdensity.ensures) (both_phases _ _ _ _ c.density_search-liquid.result (is_liquid c.before.before.before.before.before.before.before) c.density_search-vapor.result c.stable_phase-stable.result c.if-pressure-maxdensity.true (is_vapor c.before.before.before.before) c.stable_phase-stable.ensures)
+unfolding density_iteration
+returns-then-pressure-maxdensity c =
+    let is_vapor : c.density_search-vapor.result ≡ ran c.args.blend 0 (density_iteration c.compute_max_density-maxdensity.result c.args.temperature c.args.pressure Vapor) =
+    rw (← c.conditions-of_vapor.ensures) c.density_search-vapor.ensures in
+    let is_liquid : c.density_search-liquid.result ≡ ran c.args.blend 0 (density_iteration c.compute_max_density-maxdensity.result c.args.temperature c.args.pressure Liquid) =
+    rw (← c.conditions-of_liquid.ensures) c.density_search-liquid.ensures in
+    rw (← c.compute_max_density-maxdensity.ensures) (both_phases _ _ _ _ c.density_search-liquid.result is_liquid c.density_search-vapor.result c.stable_phase-stable.result c.if-pressure-maxdensity.true is_vapor c.stable_phase-stable.ensures)
 
 pub returns : goal.returns
-returns c = rw (← c.compute_max_density-maxdensity.ensures) (liquid_only _ _ _ _ c.density_search-liquid.result (is_liquid c.before) c.if-pressure-maxdensity.false)
+unfolding density_iteration
+returns c =
+    let is_liquid : c.density_search-liquid.result ≡ ran c.args.blend 0 (density_iteration c.compute_max_density-maxdensity.result c.args.temperature c.args.pressure Liquid) =
+    rw (← c.conditions-of_liquid.ensures) c.density_search-liquid.ensures in
+    rw (← c.compute_max_density-maxdensity.ensures) (liquid_only _ _ _ _ c.density_search-liquid.result is_liquid c.if-pressure-maxdensity.false)
