@@ -17,4 +17,4 @@ pub answer_next-requires : goal.answer_next-requires
 answer_next-requires c = (sym c.loop-turns.invariant.0, omega (arith, c.loop-turns.invariant.1))
 
 pub loop-turns-preserved : goal.loop-turns-preserved
-loop-turns-preserved c = let L = c.loop-turns in let A = c.answer_next in (L.invariant.0 ∙ sym A.auto.1.0, L.invariant.1 ∙ sym A.auto.1.1.0, L.invariant.2 ∙ sym A.auto.0)
+loop-turns-preserved c = let L = c.loop-turns in let A = c.answer_next in (L.invariant.0 ∙ sym A.auto.input, L.invariant.1 ∙ sym A.auto.out, L.invariant.2 ∙ sym A.auto.board)

@@ -8,4 +8,4 @@ pub slice_bounds-read_part-end : goal.slice_bounds-read_part-end
 slice_bounds-read_part-end c = c.loop-done.invariant.1
 
 pub loop-done-preserved : goal.loop-done-preserved
-loop-done-preserved c = (omega arith, c.loop-done.invariant.1 ∙ sym c.read_part-got.auto.0)
+loop-done-preserved c = (omega arith, c.loop-done.invariant.1 ∙ sym c.read_part-got.auto.s)

@@ -5,7 +5,7 @@ use Rattle.std.proofs.Common.{◌∙◌, length-set}
 use Rattle.call_lines.proofs.lines.put_looked.Goals as goal
 
 pub shape_of-out : goal.shape_of-out
-shape_of-out c = length-set c.put_digits.new.0 _ _ ∙ c.put_digits.auto.0 ∙ c.put_number-a.auto.0 ∙ c.put_part.auto.0
+shape_of-out c = length-set c.put_digits.new.out _ _ ∙ c.put_digits.auto.out ∙ c.put_number-a.auto.out ∙ c.put_part.auto.s
 
 pub returns : goal.returns
 unfolding looked_word

@@ -13,7 +13,7 @@ pub make_call-requires : goal.make_call-requires
 make_call-requires c = let L = c.loop-made in (omega arith, found_fits_lem _ _ _ _ c.in-At.is c.call_at.ensures.1)
 
 pub loop-made-preserved : goal.loop-made-preserved
-loop-made-preserved c = let L = c.loop-made in let M = c.make_call in (omega arith, refl, M.auto.0 ∙ L.invariant.2, M.auto.1.1.1.0 ∙ L.invariant.3, left_step _ _ _ _ _ _ _ _ L.invariant.4 _ _ _ _ _ (omega arith) c.in-At.is c.call_at.ensures.0 M.ensures)
+loop-made-preserved c = let L = c.loop-made in let M = c.make_call in (omega arith, refl, M.auto.board ∙ L.invariant.2, M.auto.answers ∙ L.invariant.3, left_step _ _ _ _ _ _ _ _ L.invariant.4 _ _ _ _ _ (omega arith) c.in-At.is c.call_at.ensures.0 M.ensures)
 
 pub returns : goal.returns
 returns c = left_full _ _ _ _ _ _ _ _ c.loop-made.invariant.4 (omega arith)
