@@ -3,7 +3,7 @@ use mathlib.Core.Path.{◌≡◌, refl, ap}
 use Prim.Native.Nat.{◌*◌}
 use native.Mathlib.Nat.{mul_comm}
 use mathlib.Core.Bool.{Bool, true, false}
-use lib.Ieee.{Float, nan, inf, fin, binary64, mul, unlike, up, down, round}
+use lib.Ieee.{Float, nan, inf, fin, mul, unlike, up, down}
 use Rattle.float.specs.Ops.{◌⊗◌}
 
 unlike_commutes : (s t : Bool) → unlike s t ≡ unlike t s

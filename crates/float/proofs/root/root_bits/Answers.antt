@@ -1,6 +1,5 @@
 -- `float::root::root_bits`.
 use mathlib.Core.Path.{sym, ◌∙◌}
-use Prim.Native.Nat.{◌+◌, ◌/◌, ◌^◌, ◌≤◌}
 use native.Mathlib.Omega.{arith}
 use lib.Ieee.{fin, binary64, of_bits}
 use Rattle.float.specs.Root.{root_of, root}

@@ -8,7 +8,6 @@ use Rattle.jet.proofs.Build.{fill_start, fill_turn}
 use Rattle.jet.proofs.Rules.{logarithm_local}
 use Rattle.jet.proofs.Rows.{logarithm_row, weighted_turn, length_filled, filled}
 use borrow.Author.Rules.{rules}
-use Rattle.jet.proofs.functions.logarithm.Invariants.{Inv}
 use Rattle.jet.proofs.functions.logarithm.Goals as goal
 
 pub returns-then-end-eq0 : goal.returns-then-end-eq0

@@ -7,7 +7,6 @@ use lib.Ieee.{Float}
 use Rattle.float.specs.Ops.{◌⊗◌}
 use Rattle.jet.specs.Positions.{positions, weight_of}
 use Rattle.jet.specs.Coefficients.{at, build, cut, logarithm_at}
-use Rattle.jet.proofs.Rows.{filled}
 use Rattle.jet.proofs.functions.logarithm.Given as goal
 
 pub record Inv (x : List Float) (end : ℕ) (l wl : List Float) (m : ℕ) : Type 0 where
