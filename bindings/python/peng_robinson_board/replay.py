@@ -18,7 +18,7 @@ from .request import Request
 
 # the binary form of a list, which the programs read (crates/calls/specs/Calls.antt): what a call is by its number, and
 # the longest record buffer of a turn
-NUMBERS = {"submit": 0, "turn": 1, "look": 2, "quote": 3}
+NUMBERS = {"submit": 0, "turn": 1, "look": 2}
 LONGEST_RECORD = 256
 # a block of another length than 640 is refused by 8; files without an end are not read
 LONGEST_BLOCK = 2**24
@@ -29,11 +29,10 @@ one call on a line; a # begins a comment:
   submit QUEUE KIND N BLOCK    BLOCK is a file with the block's bytes, or `zeros` for 640 zero bytes
   turn [LENGTH [TIMES]]        a turn with a record buffer of LENGTH bytes, 64 where none is given, so many times
   look QUEUE
-  quote QUEUE KIND             when a job of this kind, submitted to the queue now, would come out
 
-prints a line for each: `ticket 7`, `turned 0`, `turned 1 TICKET KIND QUEUE`, `looked EVALUATIONS DENSITY` (bits),
-`quoted 117` (turns until then, that one counted) or `refused 4`. A turn's length above 256 ends the list: `end` and the
-bytes left of it in its binary form. Refused calls are answers like others and leave the exit status 0.
+prints a line for each: `ticket 7`, `turned 0`, `turned 1 TICKET KIND QUEUE`, `looked EVALUATIONS DENSITY` (bits) or
+`refused 4`. A turn's length above 256 ends the list: `end` and the bytes left of it in its binary form. Refused calls
+are answers like others and leave the exit status 0.
 """
 
 
@@ -46,14 +45,10 @@ class Call:
     request: Optional[Request] = None
     record_length: int = RECORD_BYTES
     times: int = 1
-    # of a quote; that of a submit stands in its request
-    kind: int = 0
 
     def to_bytes(self) -> bytes:
         """One such call in the list's binary form: five numbers, and the block of a submit."""
-        kind, n, block = self.kind, 0, b""
-        if self.request is not None:
-            kind, n, block = self.request.kind, self.request.n, self.request.block
+        kind, n, block = (self.request.kind, self.request.n, self.request.block) if self.request is not None else (0, 0, b"")
         length = self.record_length if self.what == "turn" else len(block)
         return struct.pack("<5Q", NUMBERS[self.what], self.queue, kind, n, length) + block
 
@@ -89,8 +84,6 @@ def _call(words: List[str]) -> Call:
         return Call("turn", 0, None, *numbers)
     if words[0] == "look" and len(words) == 2:
         return Call("look", _number(words[1]))
-    if words[0] == "quote" and len(words) == 3:
-        return Call("quote", _number(words[1]), kind=_number(words[2]))
     raise ValueError("no call")
 
 
@@ -114,8 +107,6 @@ def made(board: Board, call: Call, records: Optional[BinaryIO] = None) -> List[A
         if call.what == "look":
             look = board.look(call.queue)
             return ["looked", look.evaluations, bits(look.density)]
-        if call.what == "quote":
-            return ["quoted", board.quote(call.queue, call.kind)]
         record = board.turn(call.record_length)
         if record is None:
             return ["turned", 0]
@@ -133,7 +124,6 @@ _NAMES = {
     "turned": ["written", "ticket", "kind", "queue"],
     "refused": ["refusal"],
     "end": ["bytes_left"],
-    "quoted": ["turns"],
 }
 COLUMNS = ["answer", *dict.fromkeys(name for names in _NAMES.values() for name in names)]
 

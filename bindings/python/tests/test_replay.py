@@ -11,8 +11,6 @@ import unittest
 from pathlib import Path
 from typing import List
 
-from peng_robinson_board import replay
-
 from tests.oracle_cases import CASES, TRACE
 from tests.support import PROJECT, Ran, launch, run
 
@@ -37,7 +35,7 @@ class Replay(unittest.TestCase):
                 at += length
                 lines.append(f"submit {a} {b} {c} {block}")
             else:
-                lines.append({1: f"turn {length}", 2: f"look {a}", 3: f"quote {a} {b}"}[what])
+                lines.append(f"turn {length}" if what == 1 else f"look {a}")
         return lines
 
     def script(self, lines: List[str]) -> str:
@@ -67,28 +65,6 @@ class Replay(unittest.TestCase):
         self.assertEqual(run("replay", self.script(["submit 0 /dev/zero"])).status, 1)
         self.assertEqual(run("replay", self.script(["submit 0 3 1 /dev/zero"])).status, 1)
 
-    def test_quotes(self) -> None:
-        lines = ["quote 0 3", "submit 0 3 1 zeros", "turn 64 117", "quote 0 3", "quote 0x1 2", "quote 4 0", "quote 0 0"]
-        lines += ["submit 3 3 1 zeros"] * 8 + ["quote 3 10", "quote 3 9"]
-        expected = ["quoted 117", "ticket 0", *["turned 0"] * 116, "turned 1 0 3 0", "quoted 120", f"quoted {6203 * 4 + 1}"]
-        expected += ["refused 1", "refused 2", *(f"ticket {ticket}" for ticket in range(8)), "refused 2", "refused 4"]
-        ran = run("replay", self.script(lines))
-        self.assertEqual((ran.status, ran.text.splitlines(), ran.err), (0, expected, ""))
-        ran = run("replay", self.script(lines[:1]), "--json")
-        self.assertEqual(json.loads(ran.text), {"answer": "quoted", "turns": 117})
-        ran = run("replay", self.script(lines[:1]), "--csv")
-        rows = [{name: text for name, text in row.items() if text} for row in csv.DictReader(io.StringIO(ran.text))]
-        self.assertEqual(rows, [{"answer": "quoted", "turns": "117"}])
-
-    def test_binary_form(self) -> None:
-        """crates/calls/specs/Calls.antt: what, a, b, c, length, and the block of a submit."""
-        block = bytes(640)
-        script = io.StringIO("submit 1 3 2 zeros\nturn 65\nlook 3\nquote 2 9\n")
-        listed = [call.to_bytes() for call in replay.calls(script)]
-        headers = [(0, 1, 3, 2, 640), (1, 0, 0, 0, 65), (2, 3, 0, 0, 0), (3, 2, 9, 0, 0)]
-        expected = [struct.pack("<5Q", *numbers) for numbers in headers]
-        self.assertEqual(listed, [expected[0] + block, *expected[1:]])
-
     def test_csv(self) -> None:
         ran = run("replay", self.script(["submit 0 3 1 zeros", "turn 64 117", "look 0"]), "--csv")
         rows = list(csv.DictReader(io.StringIO(ran.text)))
@@ -107,7 +83,6 @@ class Replay(unittest.TestCase):
             "refused": ["refusal"],
             "ticket": ["ticket"],
             "looked": ["evaluations", "density_bits"],
-            "quoted": ["turns"],
             "turned": ["written", "ticket", "kind", "queue"],
         }
         again = []
@@ -124,8 +99,7 @@ class Replay(unittest.TestCase):
         lines += ["submit 9 1 2 zeros", "submit 0x2 5 1 zeros", "submit 3 7 2 zeros", "submit 3 7 1 zeros"]
         lines += ["submit 3 8 2 zeros", "submit 3 9 2 zeros", "submit 3 9 3 zeros", "submit 3 10 2 zeros"]
         lines += ["turn 200 700", "turn 300 0", "look 2"]
-        lines += ["quote 0 2", "quote 2 1", "quote 3 10", "quote 4 0", f"quote {2**64 - 1} 1", "quote 3 0xffffffff"]
-        lines += ["turn 257 3", "look 0", f"submit 0 1 2 {block}", "quote 0 1"]
+        lines += ["turn 257 3", "look 0", f"submit 0 1 2 {block}"]
         script = self.script(lines)
         words = [sys.executable, str(PROJECT / "tools" / "calls"), script]
         calls = subprocess.run(words, stdout=subprocess.PIPE, check=True)
@@ -137,11 +111,11 @@ class Replay(unittest.TestCase):
         block.write_bytes(CASES[0].block())
         lines = ["submit 0 3 1 zeros", "turn 64 117", "look 0"]
         lines += [f"submit 1 1 2 {block}", "turn", "look 1", "turn 256 4", "look 1"]
-        # the list ends before a buffer of 257 bytes: two turns, a look, a quote and a submit of 640 bytes are left
-        lines += ["turn 257 2", "look 0", "quote 0 3", "submit 0 3 1 zeros"]
+        # the list ends before a buffer of 257 bytes: two turns, a look and a submit of 640 bytes are left
+        lines += ["turn 257 2", "look 0", "submit 0 3 1 zeros"]
         expected = ["ticket 0", *["turned 0"] * 116, "turned 1 0 3 0", "refused 7"]
         expected += ["ticket 0", "turned 0", f"looked 1 {TRACE[0]}", *["turned 0"] * 4, f"looked 2 {TRACE[1]}"]
-        expected += [f"end {2 * 40 + 40 + 40 + 40 + 640}"]
+        expected += [f"end {2 * 40 + 40 + 40 + 640}"]
         ran = run("replay", self.script(lines))
         self.assertEqual((ran.status, ran.text.splitlines()), (0, expected))
 
@@ -155,8 +129,6 @@ class Replay(unittest.TestCase):
 
     def test_lines_that_are_no_calls(self) -> None:
         for line in ("jump", "turn x", "turn 1 2 3", "turn -1", "look", f"look {2**64}", "look 0x", f"look {'9' * 5000}"):
-            self.bad(line)
-        for line in ("quote", "quote 0", "quote 0 3 1", "quote 0 x", "quote x 3", "quote -1 3", f"quote 0 {2**64}"):
             self.bad(line)
         for words in ("", "/nowhere/block", "/", "zeros zeros", "a\0b"):
             self.bad(f"submit 0 3 1 {words}")

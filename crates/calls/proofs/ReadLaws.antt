@@ -11,7 +11,7 @@ use Rattle.buf.specs.Bytes.{u64_at}
 use Rattle.calls.specs.declared.types.Call as code_call
 use Rattle.calls.specs.declared.types.Found.{Found}
 use Rattle.calls.specs.declared.types.Found.TheVariants.{At, End}
-use Rattle.calls.specs.Calls.{Placed, submit_at, turn_at, look_at, quote_at, call_at, call_with, found_of, call_fits, found_fits}
+use Rattle.calls.specs.Calls.{Placed, submit_at, turn_at, look_at, call_at, call_with, found_of, call_fits, found_fits}
 
 -- r stands for what is placed there, and fits
 abbrev pub Finds : List ℕ → Found → Option Placed → Type 0
@@ -41,10 +41,6 @@ pub look_read : (s : List ℕ) (at queue : ℕ) → queue ≡ u64_at s (at + 8) 
 unfolding found_of found_fits look_at call_with call_fits
 look_read s at queue e = (rw (← e), refl)
 
-pub quote_read : (s : List ℕ) (at queue kind : ℕ) → queue ≡ u64_at s (at + 8) → kind ≡ u64_at s (at + 16) → Finds s (At (code_call.TheVariants.Quote queue kind) (at + 40)) (quote_at s at)
-unfolding found_of found_fits quote_at call_with call_fits
-quote_read s at queue kind eq ek = (rw (← eq, ← ek), refl)
-
 -- no room for a header
 pub call_none : (s : List ℕ) (at : ℕ) → length s < at + 40 → Finds s End (call_at s at)
 unfolding found_of found_fits call_at
@@ -63,10 +59,6 @@ module _ (s : List ℕ) (at w : ℕ) (h : at + 40 ≤ length s) (ew : w ≡ u64_
   unfolding call_at
   call_look r z f = rw (le-leb _ _ h, ← ew, z) f
 
-  pub call_quote : (r : Found) → w ≡ 3 → Finds s r (quote_at s at) → Finds s r (call_at s at)
-  unfolding call_at
-  call_quote r z f = rw (le-leb _ _ h, ← ew, z) f
-
-  pub call_other : (w ≡ 0 → ⊥) → (w ≡ 1 → ⊥) → (w ≡ 2 → ⊥) → (w ≡ 3 → ⊥) → Finds s End (call_at s at)
+  pub call_other : (w ≡ 0 → ⊥) → (w ≡ 1 → ⊥) → (w ≡ 2 → ⊥) → Finds s End (call_at s at)
   unfolding call_at found_of found_fits
-  call_other n₀ n₁ n₂ n₃ = (rw (le-leb _ _ h, ← ew, ne_eqb _ _ n₀, ne_eqb _ _ n₁, ne_eqb _ _ n₂, ne_eqb _ _ n₃), refl)
+  call_other n₀ n₁ n₂ = (rw (le-leb _ _ h, ← ew, ne_eqb _ _ n₀, ne_eqb _ _ n₁, ne_eqb _ _ n₂), refl)

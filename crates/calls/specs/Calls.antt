@@ -4,17 +4,17 @@
 --   what 0, submit: queue a, kind b, N c; the `length` bytes of the block follow the header.
 --   what 1, turn: a record buffer of `length` zero bytes, at most 256; nothing follows.
 --   what 2, look: queue a; nothing follows.
---   what 3, quote: queue a, kind b; nothing follows.
 -- The list ends where fewer than 40 bytes are left, `what` is another number, a block is cut short, or a turn's length is above 256.
 --
--- An answer is 32 bytes: what u64 (0 refused, 1 ticket, 2 turned, 3 looked, 4 quoted), number u64 (the refusal, the ticket, 0 or 1, 0, the turns), and
--- bytes 0 to 15 of the record that was written, else zeros. What a look shows belongs to the queue's owner and is not in it.
+-- An answer is 32 bytes: what u64 (0 refused, 1 ticket, 2 turned, 3 looked), number u64 (the refusal, the ticket, 0 or 1, 0), and bytes 0 to 15
+-- of the record that was written, else zeros. What a look shows belongs to the queue's owner and is not in it. No list has a quote; as 32 bytes its
+-- answer has what 4 and the turns as number.
 --
 -- Definitions only.
 use Rattle.std.specs.Prelude.{ℕ, zero, suc, ◌+◌, Bool, true, cond, List, [], ◌∷◌, ◌++◌, length, leb, eqb}
 use Rattle.std.proofs.Math.Option.{Option, none, some}
 use Rattle.buf.specs.Bytes.{part, splice, u64_at, put_u64, zeros}
-use Rattle.schedule.specs.Schedule.{Call, Submit, Turn, Look, Quote}
+use Rattle.schedule.specs.Schedule.{Call, Submit, Turn, Look}
 use Rattle.board_spec.specs.Run.{Bytes, Calls, Public, refusal, ticketed, turning, looking, quoting}
 use Rattle.calls.specs.declared.types.Call as code_call
 use Rattle.calls.specs.declared.types.Found as code-found
@@ -38,14 +38,11 @@ turn_at s at = cond (leb (u64_at s (at + 32)) 256) (some (record { call = Turn (
 unfoldable pub look_at : Bytes → (at : ℕ) → Option Placed
 look_at s at = some (record { call = Look (u64_at s (at + 8)); next = at + 40 })
 
-unfoldable pub quote_at : Bytes → (at : ℕ) → Option Placed
-quote_at s at = some (record { call = Quote (u64_at s (at + 8)) (u64_at s (at + 16)); next = at + 40 })
-
 -- the call at an offset, if there is one
 unfoldable pub call_at : Bytes → (at : ℕ) → Option Placed
 call_at s at =
     cond (leb (at + 40) (length s))
-    (cond (eqb (u64_at s at) 0) (submit_at s at) (cond (eqb (u64_at s at) 1) (turn_at s at) (cond (eqb (u64_at s at) 2) (look_at s at) (cond (eqb (u64_at s at) 3) (quote_at s at) none))))
+    (cond (eqb (u64_at s at) 0) (submit_at s at) (cond (eqb (u64_at s at) 1) (turn_at s at) (cond (eqb (u64_at s at) 2) (look_at s at) none)))
     none
 
 unfoldable pub before : Option Placed → (ℕ → Calls) → Calls
@@ -81,7 +78,6 @@ unfoldable pub call_with : Bytes → (ℕ → Bytes) → code_call.Call → Call
 call_with s buffer (code_call.TheVariants.Submit queue kind n from length) = Submit queue kind n (part s from length)
 call_with s buffer (code_call.TheVariants.Turn length) = Turn (buffer length)
 call_with s buffer (code_call.TheVariants.Look queue) = Look queue
-call_with s buffer (code_call.TheVariants.Quote queue kind) = Quote queue kind
 
 abbrev pub call_of : Bytes → code_call.Call → Call Bytes
 call_of s call = call_with s zeros call
@@ -95,7 +91,6 @@ unfoldable pub call_fits : (size : ℕ) → code_call.Call → Bool
 call_fits size (code_call.TheVariants.Submit queue kind n from length) = leb (from + length) size
 call_fits size (code_call.TheVariants.Turn length) = leb length 256
 call_fits size (code_call.TheVariants.Look queue) = true
-call_fits size (code_call.TheVariants.Quote queue kind) = true
 
 unfoldable pub found_fits : (size : ℕ) → code-found.Found → Bool
 found_fits size code-found.TheVariants.End = true

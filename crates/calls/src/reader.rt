@@ -1,6 +1,6 @@
 // Reads a call where it stands.
 ghost use Rattle.std.specs.Prelude.{◌≡◌, true, ◌+◌, ◌≤◌, length};
-ghost use Rattle.calls.specs.Calls.{submit_at, turn_at, look_at, quote_at, call_at, found_of, found_fits};
+ghost use Rattle.calls.specs.Calls.{submit_at, turn_at, look_at, call_at, found_of, found_fits};
 
 use crate::types::{Call, Found};
 
@@ -47,16 +47,6 @@ fn look_at(calls: &[u8], at: usize) -> Found
     Found::At(call, at + 40)
 }
 
-fn quote_at(calls: &[u8], at: usize) -> Found
-    requires { at + 40 ≤ length calls.now }
-    ensures { (found_of calls.now result ≡ quote_at calls.now at) × (found_fits (length calls.now) result ≡ true) }
-{
-    let queue = buf::get_u64(calls, at + 8);
-    let kind = buf::get_u64(calls, at + 16);
-    let call = Call::Quote { queue, kind };
-    Found::At(call, at + 40)
-}
-
 // The call at index `at`, any index.
 pub fn call_at(calls: &[u8], at: usize) -> Found
     ensures { (found_of calls.now result ≡ call_at calls.now at) × (found_fits (length calls.now) result ≡ true) }
@@ -76,9 +66,6 @@ pub fn call_at(calls: &[u8], at: usize) -> Found
     }
     if what == 2 {
         return look_at(calls, at);
-    }
-    if what == 3 {
-        return quote_at(calls, at);
     }
     Found::End
 }

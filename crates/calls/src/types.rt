@@ -16,10 +16,6 @@ pub enum Call {
     Look {
         queue: u64,
     },
-    Quote {
-        queue: u64,
-        kind: u64,
-    },
 }
 
 // What stands at an index: a call and where the next begins, or none.

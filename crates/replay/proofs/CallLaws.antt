@@ -17,7 +17,7 @@ use Rattle.board_spec.specs.Layout.{held_at, turns_at}
 use Rattle.board_spec.specs.Quarter.{first_kind, DidQuarter, turn_quarter}
 use Rattle.board_spec.specs.Board.{Answer, Refused, Ticket, Turned, Shown, Quoted, refused_did, board_fits, submit_judged, submit_board, turn_did, turn_judged, turn_board, look_judged, look_board, quote_judged, quote_board}
 use Rattle.board_spec.specs.Run.{Bytes, did, buffer_of, reply_by, Public, turning, public_of}
-use Rattle.board_spec.proofs.Runs.{look_unchanged, quote_unchanged}
+use Rattle.board_spec.proofs.Runs.{look_unchanged}
 use Rattle.board.specs.declared.types.Told.{Told}
 use Rattle.board.specs.Answers.{answer_of}
 use Rattle.calls.specs.declared.types.Call as code_call
@@ -104,7 +104,7 @@ record_start {b} {r} {c} t h e = ap (λ (x : Bytes). part x 0 64) t.buffer ∙ p
 
 -- ---- the ways in which a call is made
 
--- a submit has no record buffer
+-- a submit and a look have no record buffer
 submit_none : (b : Bytes) (queue kind n : ℕ) (block : Bytes) (v : Verdict) → [] ≡ (submit_judged b queue kind n block v).buffer
 unfolding submit_judged refused_did
 submit_none b queue kind n block accept = refl
@@ -125,17 +125,10 @@ module _ (s : Bytes) (c : code_call.Call) (b r : Bytes) (t : Told) where
   unfolding call_with
   turn_told l b' r' e h = rw e h
 
-  -- a call that changes nothing and has no record buffer
-  unchanged_told : (k : Call Bytes) → answer_of t ≡ (did b k).answer → (did b k).board ≡ b → (did b k).buffer ≡ [] → ToldCall b r k (answer_of t) b r
-  unchanged_told k ea eb er = record { answer = ea; board = sym eb; buffer = sym (splice_nil r 0) ∙ ap (splice r 0) (sym er) }
-
   pub look_told : (queue : ℕ) → c ≡ code_call.TheVariants.Look queue → answer_of t ≡ (look_board b queue).answer → ToldCall b r (call_with s (part r 0) c) (answer_of t) b r
   unfolding call_with did buffer_of
-  look_told queue e ea = rw e (unchanged_told (Look queue) ea (look_unchanged b queue).board (look_unchanged b queue).buffer)
-
-  pub quote_told : (queue kind : ℕ) → c ≡ code_call.TheVariants.Quote queue kind → answer_of t ≡ (quote_board b queue kind).answer → ToldCall b r (call_with s (part r 0) c) (answer_of t) b r
-  unfolding call_with did buffer_of
-  quote_told queue kind e ea = rw e (unchanged_told (Quote queue kind) ea (quote_unchanged b queue kind).board (quote_unchanged b queue kind).buffer)
+  look_told queue e ea =
+      rw e (record { answer = ea; board = sym (look_unchanged b queue).board; buffer = sym (splice_nil r 0) ∙ ap (splice r 0) (sym (look_unchanged b queue).buffer) })
 
 -- a turn with all of a buffer, and with its start
 module _ (b r : Bytes) (l : ℕ) (t : Told) (b' : Bytes) where
@@ -160,7 +153,6 @@ unfolding call_with call_fits
 call_zeros s (code_call.TheVariants.Submit queue kind n from l) h = refl
 call_zeros s (code_call.TheVariants.Turn l) h = ap Turn (let k : l ≤ 256 = leb-true l 256 h in part_zeros 256 0 l (omega arith))
 call_zeros s (code_call.TheVariants.Look queue) h = refl
-call_zeros s (code_call.TheVariants.Quote queue kind) h = refl
 
 pub told_zeros : (s : Bytes) (c : code_call.Call) {b b' r' : Bytes} {a : Answer} → call_fits (length s) c ≡ true → ToldCall b (zeros 256) (call_with s (part (zeros 256) 0) c) a b' r'
     → ToldCall b (zeros 256) (call_of s c) a b' r'

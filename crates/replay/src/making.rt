@@ -33,7 +33,7 @@ fn tell_turn(board: &mut [u8], record: &mut [u8], length: usize) -> Told
     board::tell_turn(board, &mut record[..length])
 }
 
-// A turn's buffer is the start of `record`, which the other calls leave alone.
+// A turn's buffer is the start of `record`, which a submit and a look leave alone.
 pub fn tell_call(board: &mut [u8], calls: &[u8], call: Call, record: &mut [u8]) -> Told
     ensures { ToldCall board.old «record».old (call_with calls.now (part «record».old 0) call) (answer_of result) board.new «record».new }
 {
@@ -47,7 +47,6 @@ pub fn tell_call(board: &mut [u8], calls: &[u8], call: Call, record: &mut [u8]) 
         } => board::tell_submit(board, queue, kind, n, part_of(calls, from, length)),
         Call::Turn { length } => tell_turn(board, record, length),
         Call::Look { queue } => board::tell_look(board, queue),
-        Call::Quote { queue, kind } => board::tell_quote(board, queue, kind),
     }
 }
 

@@ -1,5 +1,5 @@
 -- `calls::reader::call_at`.
-use Rattle.calls.proofs.ReadLaws.{call_none, call_submit, call_turn, call_look, call_quote, call_other}
+use Rattle.calls.proofs.ReadLaws.{call_none, call_submit, call_turn, call_look, call_other}
 use native.Mathlib.Omega.{arith}
 use Rattle.calls.proofs.reader.call_at.Goals as goal
 
@@ -18,8 +18,5 @@ returns-then-what-eq1 c = call_turn _ _ _ (omega arith) c.get_u64-what.ensures _
 pub returns-then-what-eq2 : goal.returns-then-what-eq2
 returns-then-what-eq2 c = call_look _ _ _ (omega arith) c.get_u64-what.ensures _ c.if-what-eq2.true c.look_at.ensures
 
-pub returns-then-what-eq3 : goal.returns-then-what-eq3
-returns-then-what-eq3 c = call_quote _ _ _ (omega arith) c.get_u64-what.ensures _ c.if-what-eq3.true c.quote_at.ensures
-
 pub returns : goal.returns
-returns c = call_other _ _ _ (omega arith) c.get_u64-what.ensures c.if-what-eq0.false c.if-what-eq1.false c.if-what-eq2.false c.if-what-eq3.false
+returns c = call_other _ _ _ (omega arith) c.get_u64-what.ensures c.if-what-eq0.false c.if-what-eq1.false c.if-what-eq2.false

@@ -1,5 +1,5 @@
 -- `replay::making::tell_call`.
-use Rattle.replay.proofs.CallLaws.{submit_told, turn_told, look_told, quote_told}
+use Rattle.replay.proofs.CallLaws.{submit_told, turn_told, look_told}
 use Rattle.replay.proofs.making.tell_call.Goals as goal
 
 pub returns-in-Submit : goal.returns-in-Submit
@@ -10,6 +10,3 @@ returns-in-Turn c = turn_told _ _ _ _ _ _ _ _ c.in-Turn.is c.tell_turn.ensures
 
 pub returns-in-Look : goal.returns-in-Look
 returns-in-Look c = look_told _ _ _ _ _ _ c.in-Look.is c.tell_look.ensures
-
-pub returns-in-Quote : goal.returns-in-Quote
-returns-in-Quote c = quote_told _ _ _ _ _ _ _ c.in-Quote.is c.tell_quote.ensures
