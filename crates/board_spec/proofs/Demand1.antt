@@ -28,7 +28,8 @@ use Rattle.board_spec.specs.Rep.{Stands, stands, ShowsQueue}
 use Rattle.board_spec.specs.Demand3.{event_at, Release}
 use Rattle.board_spec.specs.Demand1.{SubmitAnswers, TurnAnswers, LookAnswers, QuoteAnswers, Spans, SameFill, SameAsked, SamePublic, Demand1}
 use Rattle.board_spec.proofs.AnyQuarter.{turn_idle, turn_out, turn_on, record_public}
-use Rattle.board_spec.proofs.Sim.{zero_rep, room, submit_accepted, submit_same, look_same, quote_accepted, quote_same}
+use Rattle.board_spec.proofs.Sim.{room, submit_accepted, submit_same, look_same, quote_accepted, quote_same}
+use Rattle.board_spec.proofs.Whole.{zero_rep, rep_parted}
 use Rattle.board_spec.proofs.Runs.{rep_after, served_by, refused_unchanged}
 use Rattle.board_spec.proofs.Tested.{board_tested}
 use Rattle.board_spec.proofs.Answers.{held_most, submit_holds, submit_only, turn_holds, turn_only, look_holds, look_only, quote_holds, quote_only}
@@ -265,7 +266,7 @@ unfolding event_at
 released run x =
     let σ = after_all length fresh x.place.before in
     let r = rep_after fresh zero_board zero_rep x.place.before in
-    request_out _ _ _ (r.shows.each σ.turn r.shows.low) x.job (job_out σ x.place.call x.queue x.job x.handed)
+    request_out _ _ _ ((rep_parted r).shows.each σ.turn r.low) x.job (job_out σ x.place.call x.queue x.job x.handed)
 
 -- ---- the demand
 
