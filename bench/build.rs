@@ -1,4 +1,4 @@
-// Links libexports.a and libgateway.a of target/staticlib, which `rt staticlib` writes.
+// Links libexports.a and libgateway.a of target/staticlib, which `tools/build exports gateway` writes.
 fn main() {
     let root = std::path::Path::new(env!("CARGO_MANIFEST_DIR")).parent().unwrap().join("target/staticlib");
     println!("cargo:rustc-link-search=native={}", root.display());

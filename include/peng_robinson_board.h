@@ -4,7 +4,7 @@
  * of state, as jobs in four queues. The functions are written in Rattle and proved; this header
  * declares them for C and C++.
  *
- * Build. `rt staticlib gateway` at the project's root writes target/staticlib/libgateway.a. Then
+ * Build. `tools/build gateway` at the project's root writes target/staticlib/libgateway.a. Then
  *
  *     cc -I include program.c target/staticlib/libgateway.a
  *

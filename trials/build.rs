@@ -1,4 +1,4 @@
-// Links target/staticlib/libgateway.a, which `rt staticlib gateway` writes.
+// Links target/staticlib/libgateway.a, which `tools/build gateway` writes.
 fn main() {
     let root = std::path::Path::new(env!("CARGO_MANIFEST_DIR"))
         .parent()

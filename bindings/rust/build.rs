@@ -26,7 +26,7 @@ fn main() {
     } else {
         // cargo prints this line and fails; an exit status of our own would add the script's whole output
         println!(
-            "cargo::error={} is missing: `rt staticlib gateway` at the project's root writes it",
+            "cargo::error={} is missing: `tools/build gateway` at the project's root writes it",
             archive.display()
         );
     }

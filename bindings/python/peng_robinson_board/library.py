@@ -48,7 +48,7 @@ def make_shared(shared: Path = SHARED_OBJECT) -> Path:
         stamp = archive.stat().st_mtime_ns
     except OSError:
         raise LibraryMissing(
-            f"{archive} is missing: `rt staticlib gateway` at the project's root writes it "
+            f"{archive} is missing: `tools/build gateway` at the project's root writes it "
             f"({ARCHIVE_FOLDER_VARIABLE} names another folder to look in)"
         ) from None
     try:
@@ -143,7 +143,7 @@ def load() -> ctypes.CDLL:
                     function.restype = _u64
             except (OSError, AttributeError) as fault:
                 raise LibraryMissing(
-                    f"{path} cannot be used ({fault}): `rt staticlib gateway` at the project's root and then "
+                    f"{path} cannot be used ({fault}): `tools/build gateway` at the project's root and then "
                     "bindings/python/make-shared make it anew"
                 ) from None
             _loaded = library

@@ -241,10 +241,10 @@ class SharedObject(unittest.TestCase):
 
     def test_variables_that_point_at_nothing(self) -> None:
         self.missing("/nowhere/x.so", "PENG_ROBINSON_BOARD_SO", PENG_ROBINSON_BOARD_SO="/nowhere/x.so")
-        self.missing("rt staticlib gateway", "/nowhere/libgateway.a", PENG_ROBINSON_BOARD_LIB="/nowhere")
+        self.missing("tools/build gateway", "/nowhere/libgateway.a", PENG_ROBINSON_BOARD_LIB="/nowhere")
 
     def test_what_is_no_library(self) -> None:
-        self.missing("rt staticlib gateway", PENG_ROBINSON_BOARD_SO=__file__)
+        self.missing("tools/build gateway", PENG_ROBINSON_BOARD_SO=__file__)
         self.missing("PENG_ROBINSON_BOARD_SO", PENG_ROBINSON_BOARD_SO="/")
 
     def test_a_library_without_the_functions(self) -> None:
@@ -268,7 +268,7 @@ class SharedObject(unittest.TestCase):
         env = environment(PENG_ROBINSON_BOARD_LIB="/nowhere")
         done = subprocess.run(script, env=env, capture_output=True, text=True, check=False)
         self.assertEqual((done.returncode, done.stdout), (1, ""))
-        self.assertIn("`rt staticlib gateway` at the project's root writes it", done.stderr)
+        self.assertIn("`tools/build gateway` at the project's root writes it", done.stderr)
         self.assertNotIn("Traceback", done.stderr)
 
     def test_made_anew_from_another_archive_and_not_from_the_same(self) -> None:

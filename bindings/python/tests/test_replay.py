@@ -116,7 +116,7 @@ class Replay(unittest.TestCase):
             again.append(" ".join([told["answer"], *(str(told[key]) for key in order[told["answer"]] if key in told)]))
         self.assertEqual(again, expected.splitlines())
 
-    @unittest.skipUnless(PROGRAM.is_file(), f"no {PROGRAM}: `rt check replay_calls` builds it")
+    @unittest.skipUnless(PROGRAM.is_file(), f"no {PROGRAM}: `tools/build replay_calls` makes it")
     def test_same_as_the_program(self) -> None:
         block = self.folder / "block"
         block.write_bytes(CASES[0].block())

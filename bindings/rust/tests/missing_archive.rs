@@ -18,7 +18,7 @@ fn a_missing_archive_is_a_plain_error() {
     let errors = String::from_utf8_lossy(&output.stderr);
     assert!(!output.status.success());
     let expected =
-        "/nonexistent/libgateway.a is missing: `rt staticlib gateway` at the project's root writes it";
+        "/nonexistent/libgateway.a is missing: `tools/build gateway` at the project's root writes it";
     assert!(errors.contains(expected), "{errors}");
     assert!(!errors.contains("panicked") && errors.lines().count() <= 4, "{errors}");
 }

@@ -243,11 +243,11 @@ module _ (b : Bytes) (queue kind n : ℕ) (block : Bytes) (ticket : ℕ) (e : (s
 
   accepted_ends : sealed_bytes (outcome_at (state_after (view kind n block) (span_of kind))) ≡ sealed_of kind n block
   accepted_ends =
-      stepping.finished kind n block (record { kind_fits = inside_true 1 9 kind request.0; count_fits = count_true kind n request.1; block_fits = request.2 })
+      stepping.finished kind n block (record { fit_kind = inside_true 1 9 kind request.0; fit_count = count_true kind n request.1; block_fits = request.2 })
 
 -- a job that is handed out is a request
 sealed_request : (kind n : ℕ) (block : Bytes) → Request kind n block → Sealed kind n block
-sealed_request kind n block r = statuses kind n block (true_inside 1 9 kind r.kind_fits) (count_right kind n r.count_fits) r.block_fits
+sealed_request kind n block r = statuses kind n block (true_inside 1 9 kind r.fit_kind) (count_right kind n r.fit_count) r.block_fits
 
 request_out : (count : ℕ) (js : List (Held Bytes)) (q : Bytes) → ShowsQueue count js q → (j : Held Bytes) → (undergo js).out ≡ some j → Request j.kind j.n j.block
 unfolding undergo turned

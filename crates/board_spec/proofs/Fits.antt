@@ -71,7 +71,7 @@ module _ (q : Bytes) (l : length q ≡ quarter_length) (t : Tested q) (kind n : 
 
   new_fits : slot_fits more (slot_of (u64_at q accepted_at)) ≡ true
   unfolding slot_fits
-  new_fits = rw (more_reads.new_kind, more_reads.new_n) (both _ _ ok.kind_fits ok.count_fits)
+  new_fits = rw (more_reads.new_kind, more_reads.new_n) (both _ _ ok.fit_kind ok.fit_count)
 
   new_slot : slot_of (first_ticket q + u64_at q held_at) ≡ slot_of (u64_at q accepted_at)
   unfolding first_ticket
@@ -211,7 +211,7 @@ module _ (b : Bytes) (f : board_fits b ≡ true) where
   submit_fits queue kind n block accept e =
       let s = submit_accepted queue kind n _ _ e in
       let g = quarter_good b tested queue s.queue_low in
-      let ok : Request kind n block = record { kind_fits = s.kind_fits; count_fits = s.count_fits; block_fits = s.size_fits } in
+      let ok : Request kind n block = record { fit_kind = s.fit_kind; fit_count = s.fit_count; block_fits = s.size_fits } in
       let v : Good (submit_quarter (quarter_of b queue) kind n block) = record { len = (added _ g.len kind n block ok s.room).len; tested = submit_tested _ g.len g.tested kind n block ok s.room } in
       tested_board _ (with_tested b tested queue s.queue_low _ v)
   submit_fits queue kind n block (refuse number) e = f

@@ -365,7 +365,7 @@ answered b queue kind n block ticket e = go (check (board_fits b) 6 (submit_verd
         → (turns : ℕ) × ((quote_judged b queue kind (check (board_fits b) 6 (quote_verdict queue kind (u64_at (quarter_of b queue) held_at)))).answer ≡ Quoted turns)
     go accept z h =
         let s = submit_accepted queue kind n (length block) (u64_at (quarter_of b queue) held_at) (check_next (board_fits b) 6 _ z) in
-        let v : check (board_fits b) 6 (quote_verdict queue kind (u64_at (quarter_of b queue) held_at)) ≡ accept = sym (one_verdict b queue kind n block (count_right kind n s.count_fits) s.size_fits) ∙ z in
+        let v : check (board_fits b) 6 (quote_verdict queue kind (u64_at (quarter_of b queue) held_at)) ≡ accept = sym (one_verdict b queue kind n block (count_right kind n s.fit_count) s.size_fits) ∙ z in
         (turns_until (u64_at b turn_at) queue (turns_left (quarter_of b queue)) kind, rw v (unfold quote_judged in refl))
     go (refuse number) z h = unfold submit_judged refused_did in (let y : ◌≡◌ {A = ℕ} 0 1 = cc in absurd (omega arith))
 

@@ -7,8 +7,6 @@ use lib.ListN.{length}
 use lib.Dec.{leb, ltb, eqb}
 use native.Mathlib.Omega.{arith}
 use borrow.Author.Tests.{leb-true, lt-ltb, eq-eqb, eqb-true}
-use types.Run.{OneOf, miss}
-use denote.Enum.Declared.{tag_of}
 use Rattle.schedule.specs.Spans.{kind_fits, count_fits}
 use Rattle.schedule.proofs.Tests.{right_true}
 use Rattle.eos.specs.declared.types.Blend.{Blend}
@@ -23,7 +21,6 @@ use Rattle.block.specs.Blend.{blend_of}
 use Rattle.block.specs.Checks.{components_fit, interactions_fit, fractions_fit, sum_fits, conditions_fit}
 use Rattle.reader.specs.View.{initial_of, branch_of, given_of, task_of, refused, check, of_data, ready_job, run_fits, last_checks, checked, requested, view}
 use Rattle.reader.specs.Reading.{not_refused, refusal_of}
-use Rattle.reader.specs.contracts.types.Task.{the_type}
 
 abbrev pub OfData : ℕ → Type 0
 OfData number = of_data number ≡ true
@@ -119,9 +116,9 @@ view_refused kind n s number =
     (λ e. absurd (false≢true (ap not_refused e ∙ task_not_refused kind (numbers_of kind n s).conditions)))
 
 -- the task that is left where a match has taken the refusal away
-pub not_refused_left : (task : Task) → OneOf (1 ∷ 2 ∷ 3 ∷ 4 ∷ 5 ∷ 6 ∷ 7 ∷ 8 ∷ []) (tag_of the_type task) → not_refused task ≡ true
+pub not_refused_left : (task : Task) → ((number : ℕ) → task ≡ Refused number → ⊥) → not_refused task ≡ true
 unfolding not_refused
-not_refused_left (Refused number) h = absurd (miss (1 ∷ 2 ∷ 3 ∷ 4 ∷ 5 ∷ 6 ∷ 7 ∷ 8 ∷ []) 0 tt h)
+not_refused_left (Refused number) h = absurd (h number refl)
 not_refused_left (DensityIteration t p initial) h = refl
 not_refused_left (DensityIterationStable t p) h = refl
 not_refused_left (PressureSpinodal t start) h = refl

@@ -12,8 +12,8 @@ use rival::public::{condensed, first_difference, run, Call, Fields, Owned, Publi
 const USAGE: &str = "usage: rival        (no arguments)";
 
 const THEOREM: &str = "\
-That they are equal, the theorem `demand-3` says of any two lists of calls from a fresh board with the same public
-fields (crates/board_spec: statement specs/Demand3.antt, field `public-same`; proof proofs/Demand3.antt). A call's
+That they are equal, the theorem `demand_3` says of any two lists of calls from a fresh board with the same public
+fields (crates/board_spec: statement specs/Demand3.antt, field `public_same`; proof proofs/Demand3.antt). A call's
 moment in it is its place in the list. It says nothing of wall-clock time inside one turn: a turn that evaluates takes longer
 than one that does not. examples/gateway measures that time and releases records on a fixed clock.";
 

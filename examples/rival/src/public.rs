@@ -1,4 +1,4 @@
-//! A list of calls on a fresh board and what the public sees of it, as `publicOf` in
+//! A list of calls on a fresh board and what the public sees of it, as `public_of` in
 //! `crates/board_spec/specs/Run.antt` says: every answer but what a look shows, and of a record its first 16 bytes.
 //! The place in the list is the moment.
 use std::fmt;

@@ -13,7 +13,7 @@ fn it_says_equal_and_ends_with_0() {
     assert!(output.status.success());
     assert!(text.contains("The public views: equal."));
     assert!(text.contains("tells them apart"));
-    assert!(text.contains("`demand-3`"));
+    assert!(text.contains("`demand_3`"));
 }
 
 #[test]

@@ -14,4 +14,4 @@ pub answer_one-requires : goal.answer_one-requires
 answer_one-requires c = (c.loop-turns.invariant.0, c.loop-turns.invariant.1)
 
 pub loop-turns-preserved : goal.loop-turns-preserved
-loop-turns-preserved c = (c.loop-turns.invariant.0 ∙ sym c.answer_one.auto.0, c.loop-turns.invariant.1 ∙ sym c.answer_one.auto.1.0)
+loop-turns-preserved c = (c.loop-turns.invariant.0 ∙ sym c.answer_one.auto.request, c.loop-turns.invariant.1 ∙ sym c.answer_one.auto.out)

@@ -8,7 +8,7 @@ pub returns-in_default : goal.returns-in_default
 returns-in_default c = (
   c.number.ensures ∙ ap number_of c.tell_submit-told.ensures.0,
   c.tell_submit-told.ensures.1,
-  ticket_kept _ _ c.tell_submit-told.ensures.0 _ c.in_default.keys2,
+  ticket_kept _ _ c.tell_submit-told.ensures.0 _ c.in_default.not-Ticket,
 )
 
 pub returns : goal.returns

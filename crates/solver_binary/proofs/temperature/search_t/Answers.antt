@@ -23,7 +23,7 @@ pub returns-in-End : goal.returns-in-End
 unfolding led_t run evaluated
 returns-in-End c =
     let after_round : ran c.args.blend (c.loop-left.evaluations + 1) (led_t c.round_t-outcome.result (search_t c.args.maxdensity c.args.t (c.loop-left.left - 1))) ≡ ran c.args.blend 0 (search_t c.args.maxdensity c.args.t 200 c.args.start) =
-      rounds_turn (query_t c.args.t) (after_conditions_t c.args.maxdensity) led_t (round_t c.args.maxdensity) (round_led_t c.args.maxdensity) c.args.blend _ c.loop-left.left c.loop-left.evaluations _ _ _ c.loop-left-test.true c.criticality_conditions_t-y.ensures c.round_t-outcome.ensures c.loop-left.invariant.1 in
+    rounds_turn (query_t c.args.t) (after_conditions_t c.args.maxdensity) led_t (round_t c.args.maxdensity) (round_led_t c.args.maxdensity) c.args.blend _ c.loop-left.left c.loop-left.evaluations _ _ _ c.loop-left-test.true c.criticality_conditions_t-y.ensures c.round_t-outcome.ensures c.loop-left.invariant.1 in
     rw c.in-End.is at after_round
 
 pub loop-left-smaller : goal.loop-left-smaller
@@ -33,7 +33,7 @@ pub loop-left-preserved : goal.loop-left-preserved
 unfolding led_t evaluated
 loop-left-preserved c =
     let after_round : ran c.args.blend (c.loop-left.evaluations + 1) (led_t c.round_t-outcome.result (search_t c.args.maxdensity c.args.t (c.loop-left.left - 1))) ≡ ran c.args.blend 0 (search_t c.args.maxdensity c.args.t 200 c.args.start) =
-      rounds_turn (query_t c.args.t) (after_conditions_t c.args.maxdensity) led_t (round_t c.args.maxdensity) (round_led_t c.args.maxdensity) c.args.blend _ c.loop-left.left c.loop-left.evaluations _ _ _ c.loop-left-test.true c.criticality_conditions_t-y.ensures c.round_t-outcome.ensures c.loop-left.invariant.1 in
+    rounds_turn (query_t c.args.t) (after_conditions_t c.args.maxdensity) led_t (round_t c.args.maxdensity) (round_led_t c.args.maxdensity) c.args.blend _ c.loop-left.left c.loop-left.evaluations _ _ _ c.loop-left-test.true c.criticality_conditions_t-y.ensures c.round_t-outcome.ensures c.loop-left.invariant.1 in
     (omega arith, rw c.in-Next.is at after_round)
 
 pub returns : goal.returns

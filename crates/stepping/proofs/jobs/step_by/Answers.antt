@@ -8,4 +8,4 @@ returns-in-Refused c = rw c.in-Refused.is
 
 pub returns-in-Search : goal.returns-in-Search
 unfolding step_by
-returns-in-Search c = rw (c.in-Search.is, ← c.step-next.ensures, ← c.wrapping_add_u64.ensures)
+returns-in-Search c = rw (c.in-Search.is, ← c.step-next.ensures, ← c.wrapping_add_u64.ensures.value)

@@ -6,7 +6,7 @@ use Rattle.reader.proofs.ViewLaws.{not_refused_left, no_number}
 use Rattle.writer.proofs.writing.refusal.Goals as goal
 
 pub returns-in_default : goal.returns-in_default
-returns-in_default c = sym (no_number _ (not_refused_left _ c.in_default.keys2)) ∙ ap (λ (job : Job). refusal_of job.task) c.view-job.ensures
+returns-in_default c = sym (no_number _ (not_refused_left _ c.in_default.not-Refused)) ∙ ap (λ (job : Job). refusal_of job.task) c.view-job.ensures
 
 pub returns : goal.returns
 unfolding refusal_of
