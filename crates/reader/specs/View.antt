@@ -6,6 +6,7 @@ use Rattle.eos.specs.Cubic.{max_density, pure_of}
 use Rattle.solver.specs.declared.types.DensityInitialization.{DensityInitialization}
 use Rattle.solver.specs.declared.types.DensityInitialization.TheVariants as Initial
 use Rattle.solver_density.specs.declared.types.Branch.{Branch}
+use Rattle.solver_density.specs.declared.types.Branch.TheVariants as Branch
 use Rattle.solver_critical.specs.declared.types.Start.{Start}
 use Rattle.solver_critical.specs.declared.types.Start.TheVariants.{None, Given}
 use Rattle.block.specs.declared.types.Conditions.{Conditions}
