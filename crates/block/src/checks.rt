@@ -1,14 +1,14 @@
 // The checks 12 and 14 to 17 of the supplier's data: one component, one fraction, the sum of the fractions, the conditions, the choice.
 ghost use Rattle.std.specs.Prelude.{◌≡◌, ◌+◌, ◌≤◌, length};
 ghost use Rattle.buf.specs.Bytes.{f64_at};
-ghost use Rattle.block.specs.Checks.{positive as positiveOf, plus_zero, parameters_fit, component_fits, fraction_fits, fraction_sum, near_one, sum_fits, temperature_fits, conditions_fit, choices as choicesOf, choice_fits};
+ghost use Rattle.block.specs.Checks.{positive as positive_of, plus_zero, parameters_fit, component_fits, fraction_fits, fraction_sum, near_one, sum_fits, temperature_fits, conditions_fit, choices as choices_of, choice_fits};
 
 use crate::numbers::{optional_temperature, reads_fractions};
 use crate::types::Conditions;
 use eos::Component;
 
 pub fn positive(x: f64) -> bool
-    ensures { result ≡ positiveOf x }
+    ensures { result ≡ positive_of x }
 {
     if float::is_finite(x) {
         return 0.0 < x;
@@ -36,7 +36,7 @@ fn parameters_fit(c: Component) -> bool
 
 fn positive_at(s: &[u8], at: usize) -> bool
     requires { at + 8 ≤ length s.now }
-    ensures { result ≡ positiveOf (f64_at s.now at) }
+    ensures { result ≡ positive_of (f64_at s.now at) }
 {
     if buf::is_finite_at(s, at) {
         return 0.0 < buf::get_finite(s, at);
@@ -128,7 +128,7 @@ pub fn conditions_fit(kind: u64, c: Conditions) -> bool
 }
 
 fn choices(kind: u64, n: u64) -> u64
-    ensures { result ≡ choicesOf kind n }
+    ensures { result ≡ choices_of kind n }
 {
     if kind == 1 {
         return 3;

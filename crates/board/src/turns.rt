@@ -1,6 +1,6 @@
 // Turn: the queue that the board names is served once, and the next queue is named.
 ghost use Rattle.std.specs.Prelude.{◌≡◌, ◌≤◌};
-ghost use Rattle.schedule.specs.Schedule.{onward as onwardOf};
+ghost use Rattle.schedule.specs.Schedule.{onward as onward_of};
 ghost use Rattle.board_spec.specs.Board.{turn_board};
 ghost use Rattle.board.specs.Answers.{turned_of};
 
@@ -9,7 +9,7 @@ use crate::types::Turned;
 
 fn onward(queue: u64) -> u64
     requires { queue ≤ 3 }
-    ensures { result ≡ onwardOf queue }
+    ensures { result ≡ onward_of queue }
 {
     if queue == 3 {
         return 0;

@@ -19,7 +19,7 @@ use Rattle.board_spec.specs.Layout.{quarter_length, accepted_at, held_at, turns_
 use Rattle.board_spec.specs.Quarter.{first_ticket, slot_of, first_kind, slot_fits}
 use Rattle.board_spec.specs.Board.{quarter_of, served_in, board_fits}
 use Rattle.board_spec.specs.Run.{Bytes, Calls, did, board_after}
-use Rattle.board_spec.specs.Rep.{InSlot, Stands, no_more, stands, Waiting, nobody, waits, Running, idle, runs, ShowsQueue, Shows}
+use Rattle.board_spec.specs.Rep.{InSlot, Stands, no_more, stands, Waiting, nobody, waits, Begun, none_begun, begun, ShowsQueue, Shows}
 use Rattle.board_spec.proofs.Quarters.{slot_low}
 use Rattle.board_spec.proofs.Tested.{slots_at, Tested, quarter_tested, board_tested}
 use Rattle.board_spec.proofs.AnyQuarter.{turns_below}
@@ -97,10 +97,10 @@ unfolding jobs
 jobs_stand q l t turns zero f = no_more
 jobs_stand q l t turns (suc k) f = stands (in_slot q l t turns (first_fits q t k f)) refl (waiting_stand q l (suc t) k (later_fit q t k f))
 
-jobs_run : (q : Bytes) (t turns k : ℕ) → (1 ≤ k → turns < span_of (u64_at q (kind_at (slot_of t)))) → Running (jobs q t turns k)
+jobs_run : (q : Bytes) (t turns k : ℕ) → (1 ≤ k → turns < span_of (u64_at q (kind_at (slot_of t)))) → Begun (jobs q t turns k)
 unfolding jobs
-jobs_run q t turns zero h = idle
-jobs_run q t turns (suc k) h = runs (h (omega arith)) (waits_all q (suc t) k)
+jobs_run q t turns zero h = none_begun
+jobs_run q t turns (suc k) h = begun (h (omega arith)) (waits_all q (suc t) k)
 
 turns_jobs : (q : Bytes) (t turns k : ℕ) → (k ≡ 0 → turns ≡ 0) → turns ≡ turns_of (jobs q t turns k)
 unfolding jobs turns_of
@@ -191,16 +191,16 @@ waiting_open : {js : List (Held Bytes)} → Waiting js → Open js
 waiting_open nobody = none_held
 waiting_open (waits {j} {js} e w) = let s = span_within j.kind in let h : j.turns < span_of j.kind = omega arith in and h (waiting_open w)
 
-running_open : {js : List (Held Bytes)} → Running js → Open js
-running_open idle = none_held
-running_open (runs h w) = and h (waiting_open w)
+running_open : {js : List (Held Bytes)} → Begun js → Open js
+running_open none_begun = none_held
+running_open (begun h w) = and h (waiting_open w)
 
 pub some_sound : (b : Bytes) → board_fits b ≡ true → Sound (schedule_of b)
 unfolding schedule_of
 some_sound b f = record { low = (shows_some b f).low; open_jobs = λ q. open_at q (leb q 3) refl }
   where
     open_at : (q : ℕ) (x : Bool) → leb q 3 ≡ x → Open (cond x (queue_of (quarter_of b q)) no_queue).jobs
-    open_at q true e = running_open (subst (λ (y : Bool). Running (cond y (queue_of (quarter_of b q)) no_queue).jobs) e ((shows_some b f).each q (leb-true q 3 e)).running)
+    open_at q true e = running_open (subst (λ (y : Bool). Begun (cond y (queue_of (quarter_of b q)) no_queue).jobs) e ((shows_some b f).each q (leb-true q 3 e)).running)
     open_at q false e = none_held
 
 stands_numbered : {q : Bytes} {t : ℕ} {js : List (Held Bytes)} → Stands q t js → Numbered t js

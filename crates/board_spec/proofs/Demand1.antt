@@ -26,9 +26,10 @@ use Rattle.board_spec.specs.Board.{quarter_of, served_in, count_in, held_in, tur
 use Rattle.board_spec.specs.Run.{Bytes, Calls, zero_board, did, Reply, reply_by, buffer_of, Public, turning, public_of}
 use Rattle.board_spec.specs.Rep.{Stands, stands, ShowsQueue}
 use Rattle.board_spec.specs.Demand3.{event_at, Release}
-use Rattle.board_spec.specs.Demand1.{SubmitAnswers, TurnAnswers, LookAnswers, QuoteAnswers, Spans, SameFill, SamePublic, Demand1}
+use Rattle.board_spec.specs.Demand1.{SubmitAnswers, TurnAnswers, LookAnswers, QuoteAnswers, Spans, SameFill, SameAsked, SamePublic, Demand1}
 use Rattle.board_spec.proofs.AnyQuarter.{turn_idle, turn_out, turn_on, record_public}
-use Rattle.board_spec.proofs.Sim.{zero_rep, room, submit_accepted, submit_same, look_same, quote_accepted, quote_same}
+use Rattle.board_spec.proofs.Sim.{room, submit_accepted, submit_same, look_same, quote_accepted, quote_same}
+use Rattle.board_spec.proofs.Whole.{zero_rep, rep_parted}
 use Rattle.board_spec.proofs.Runs.{rep_after, served_by, refused_unchanged}
 use Rattle.board_spec.proofs.Tested.{board_tested}
 use Rattle.board_spec.proofs.Answers.{held_most, submit_holds, submit_only, turn_holds, turn_only, look_holds, look_only, quote_holds, quote_only}
@@ -110,18 +111,6 @@ turn_told queue q buffer room = go (eqb (u64_at q held_at) 0) (eqb (u64_at q tur
         ∙ ap (turning 1) (record_public buffer (first_ticket q) (first_kind q) queue _ room ∙ (unfold first_ticket in refl))
     go false false e f = ap (λ (d : DidQuarter). public_of (quarter_reply d)) (turn_on queue q buffer e f)
 
--- the kind does not show where no job is held
-public_held : (t c h s k k' : ℕ) (x : Bool) → eqb h 0 ≡ x → (1 ≤ h → k ≡ k') → public_turn t c h s k ≡ public_turn t c h s k'
-unfolding public_turn
-public_held t c h s k k' true e f = simp e
-public_held t c h s k k' false e f = let n = eqb-false h 0 e in let z : k ≡ k' = f (omega arith) in rw z
-
-first_kind_lem : (b b' : Bytes) (queue : ℕ) → SameFill b b' queue → 1 ≤ held_in b queue → kind_in b queue ≡ kind_in b' queue
-first_kind_lem b b' queue s h =
-    let z : first_ticket (quarter_of b queue) + 0 ≡ first_ticket (quarter_of b queue) = omega arith in
-    let z' : first_ticket (quarter_of b' queue) + 0 ≡ first_ticket (quarter_of b' queue) = omega arith in
-    rw (z, z') at (s.kinds 0 h)
-
 -- the turns that the jobs held need are told by their kinds and the turns had
 spans_same : (p q : Bytes) (t u k : ℕ) → ((i : ℕ) → i < k → u64_at p (kind_at (slot_of (t + i))) ≡ u64_at q (kind_at (slot_of (u + i)))) → spans_from p t k ≡ spans_from q u k
 unfolding spans_from
@@ -156,7 +145,7 @@ module _ (b b' : Bytes) (same : SamePublic b b') where
   -- the same verdict, and where it accepts, boards that pass 6 and a queue that there is
   submit_verdict_lem : (queue kind n size : ℕ) → check (board_fits b) 6 (submit_verdict queue kind n size (held_in b queue)) ≡ check (board_fits b') 6 (submit_verdict queue kind n size (held_in b' queue))
   submit_verdict_lem queue kind n size =
-      rw same.six (ap (λ (v : Verdict). check (board_fits b') 6 v) (submit_same queue kind n size _ _ (λ h. (same.queues queue h).fill.held)))
+      rw same.six (ap (λ (v : Verdict). check (board_fits b') 6 v) (submit_same queue kind n size _ _ (λ h. (same.queues queue h).held)))
 
   submit_low : (queue kind n size : ℕ) → check (board_fits b') 6 (submit_verdict queue kind n size (held_in b' queue)) ≡ accept → queue ≤ 3
   submit_low queue kind n size e = (submit_accepted queue kind n size _ (check_next (board_fits b') 6 _ e)).queue_low
@@ -171,7 +160,7 @@ module _ (b b' : Bytes) (same : SamePublic b b') where
   unfolding look_board
   look_unseen queue =
       let e : check (board_fits b) 6 (look_verdict queue (turns_in b queue)) ≡ check (board_fits b') 6 (look_verdict queue (turns_in b' queue)) =
-      rw same.six (ap (λ (v : Verdict). check (board_fits b') 6 v) (look_same queue _ _ (λ h. (same.queues queue h).fill.turns))) in
+      rw same.six (ap (λ (v : Verdict). check (board_fits b') 6 v) (look_same queue _ _ (λ h. (same.queues queue h).turns))) in
       rw e (look_public b b' queue _)
 
   turn_judged_lem : (buffer buffer' : Bytes) (v : Verdict) → (v ≡ accept → (served_in b ≤ 3) × (64 ≤ length buffer) × (64 ≤ length buffer'))
@@ -182,11 +171,11 @@ module _ (b b' : Bytes) (same : SamePublic b b') where
       let t' = served_in b' in
       let s = same.queues t (h refl).0 in
       turn_told t (quarter_of b t) buffer (h refl).1
-      ∙ told t t' _ _ _ _ _ _ _ _ same.turn (s.count ∙ ap (count_in b') same.turn) (s.fill.held ∙ ap (held_in b') same.turn) (s.fill.turns ∙ ap (turns_in b') same.turn) (λ h. first_kind_lem b b' t s.fill h ∙ ap (kind_in b') same.turn)
+      ∙ told t t' _ _ _ _ _ _ _ _ same.turn (s.count ∙ ap (count_in b') same.turn) (s.held ∙ ap (held_in b') same.turn) (s.turns ∙ ap (turns_in b') same.turn) (s.kind ∙ ap (kind_in b') same.turn)
       ∙ sym (turn_told t' (quarter_of b' t') buffer' (h refl).2)
     where
-      told : (t t' c c' h h' s s' k k' : ℕ) → t ≡ t' → c ≡ c' → h ≡ h' → s ≡ s' → (1 ≤ h → k ≡ k') → public_turn t c h s k ≡ public_turn t' c' h' s' k'
-      told t t' c c' h h' s s' k k' et ec eh es ek = rw (et, ec, sym eh, es) (public_held t' c' h s' k k' (eqb h 0) refl ek)
+      told : (t t' c c' h h' s s' k k' : ℕ) → t ≡ t' → c ≡ c' → h ≡ h' → s ≡ s' → k ≡ k' → public_turn t c h s k ≡ public_turn t' c' h' s' k'
+      told t t' c c' h h' s s' k k' et ec eh es ek = cc
   turn_judged_lem buffer buffer' (refuse m) h = unfold public_of refused_did in refl
 
   turn_unseen : (buffer buffer' : Bytes) → length buffer ≡ length buffer' → public_of (reply_by (turn_board b buffer)) ≡ public_of (reply_by (turn_board b' buffer'))
@@ -199,32 +188,32 @@ module _ (b b' : Bytes) (same : SamePublic b b') where
         room (length buffer') (check_next (board_fits b') 6 _ a),
       )))
 
-  data_unseen : (c c' : Call Bytes) → map_call length c ≡ map_call length c' → public_of (reply_by (did b c)) ≡ public_of (reply_by (did b' c'))
+  data_unseen : (c c' : Call Bytes) → map_call length c ≡ map_call length c' → SameAsked b b' c → public_of (reply_by (did b c)) ≡ public_of (reply_by (did b' c'))
   unfolding map_call did
-  data_unseen (Submit queue kind n block) (Submit queue' kind' n' block') e =
+  data_unseen (Submit queue kind n block) (Submit queue' kind' n' block') e a =
       let eq : queue ≡ queue' = cc in
       let ek : kind ≡ kind' = cc in
       let en : n ≡ n' = cc in
       let el : length block ≡ length block' = cc in
       rw (eq, ek, en) (ap public_of (submit_unseen queue' kind' n' block block' el))
-  data_unseen (Submit queue kind n block) (Turn buffer') e = let z : ◌≡◌ {A = ℕ} 0 1 = cc in absurd (omega arith)
-  data_unseen (Submit queue kind n block) (Look queue') e = let z : ◌≡◌ {A = ℕ} 0 1 = cc in absurd (omega arith)
-  data_unseen (Submit queue kind n block) (Quote queue' kind') e = let z : ◌≡◌ {A = ℕ} 0 1 = cc in absurd (omega arith)
-  data_unseen (Turn buffer) (Submit queue' kind' n' block') e = let z : ◌≡◌ {A = ℕ} 0 1 = cc in absurd (omega arith)
-  data_unseen (Turn buffer) (Turn buffer') e = turn_unseen buffer buffer' (cc)
-  data_unseen (Turn buffer) (Look queue') e = let z : ◌≡◌ {A = ℕ} 0 1 = cc in absurd (omega arith)
-  data_unseen (Turn buffer) (Quote queue' kind') e = let z : ◌≡◌ {A = ℕ} 0 1 = cc in absurd (omega arith)
-  data_unseen (Look queue) (Submit queue' kind' n' block') e = let z : ◌≡◌ {A = ℕ} 0 1 = cc in absurd (omega arith)
-  data_unseen (Look queue) (Turn buffer') e = let z : ◌≡◌ {A = ℕ} 0 1 = cc in absurd (omega arith)
-  data_unseen (Look queue) (Look queue') e = let eq : queue ≡ queue' = cc in rw eq (look_unseen queue')
-  data_unseen (Look queue) (Quote queue' kind') e = let z : ◌≡◌ {A = ℕ} 0 1 = cc in absurd (omega arith)
-  data_unseen (Quote queue kind) (Submit queue' kind' n' block') e = let z : ◌≡◌ {A = ℕ} 0 1 = cc in absurd (omega arith)
-  data_unseen (Quote queue kind) (Turn buffer') e = let z : ◌≡◌ {A = ℕ} 0 1 = cc in absurd (omega arith)
-  data_unseen (Quote queue kind) (Look queue') e = let z : ◌≡◌ {A = ℕ} 0 1 = cc in absurd (omega arith)
-  data_unseen (Quote queue kind) (Quote queue' kind') e =
+  data_unseen (Submit queue kind n block) (Turn buffer') e a = let z : ◌≡◌ {A = ℕ} 0 1 = cc in absurd (omega arith)
+  data_unseen (Submit queue kind n block) (Look queue') e a = let z : ◌≡◌ {A = ℕ} 0 1 = cc in absurd (omega arith)
+  data_unseen (Submit queue kind n block) (Quote queue' kind') e a = let z : ◌≡◌ {A = ℕ} 0 1 = cc in absurd (omega arith)
+  data_unseen (Turn buffer) (Submit queue' kind' n' block') e a = let z : ◌≡◌ {A = ℕ} 0 1 = cc in absurd (omega arith)
+  data_unseen (Turn buffer) (Turn buffer') e a = turn_unseen buffer buffer' (cc)
+  data_unseen (Turn buffer) (Look queue') e a = let z : ◌≡◌ {A = ℕ} 0 1 = cc in absurd (omega arith)
+  data_unseen (Turn buffer) (Quote queue' kind') e a = let z : ◌≡◌ {A = ℕ} 0 1 = cc in absurd (omega arith)
+  data_unseen (Look queue) (Submit queue' kind' n' block') e a = let z : ◌≡◌ {A = ℕ} 0 1 = cc in absurd (omega arith)
+  data_unseen (Look queue) (Turn buffer') e a = let z : ◌≡◌ {A = ℕ} 0 1 = cc in absurd (omega arith)
+  data_unseen (Look queue) (Look queue') e a = let eq : queue ≡ queue' = cc in rw eq (look_unseen queue')
+  data_unseen (Look queue) (Quote queue' kind') e a = let z : ◌≡◌ {A = ℕ} 0 1 = cc in absurd (omega arith)
+  data_unseen (Quote queue kind) (Submit queue' kind' n' block') e a = let z : ◌≡◌ {A = ℕ} 0 1 = cc in absurd (omega arith)
+  data_unseen (Quote queue kind) (Turn buffer') e a = let z : ◌≡◌ {A = ℕ} 0 1 = cc in absurd (omega arith)
+  data_unseen (Quote queue kind) (Look queue') e a = let z : ◌≡◌ {A = ℕ} 0 1 = cc in absurd (omega arith)
+  data_unseen (Quote queue kind) (Quote queue' kind') e a =
       let eq : queue ≡ queue' = cc in
       let ek : kind ≡ kind' = cc in
-      rw (eq, ek) (ap public_of (quote_told b b' queue' kind' same.six same.turn (λ h. (same.queues queue' h).fill)))
+      rw (eq, ek) (ap public_of (quote_told b b' queue' kind' same.six same.turn (subst (λ (q : ℕ). q ≤ 3 → SameFill b b' q) eq a)))
 
 -- ---- every other request runs to an answer
 
@@ -277,7 +266,7 @@ unfolding event_at
 released run x =
     let σ = after_all length fresh x.place.before in
     let r = rep_after fresh zero_board zero_rep x.place.before in
-    request_out _ _ _ (r.shows.each σ.turn r.shows.low) x.job (job_out σ x.place.call x.queue x.job x.handed)
+    request_out _ _ _ ((rep_parted r).shows.each σ.turn r.low) x.job (job_out σ x.place.call x.queue x.job x.handed)
 
 -- ---- the demand
 
@@ -286,7 +275,7 @@ unfolding span_of
 all_spans = record { kind_1 = refl; kind_2 = refl; kind_3 = refl; kind_4 = refl; kind_5 = refl; kind_6 = refl; kind_7 = refl; kind_8 = refl; kind_9 = refl }
 
 same_board : (b : Bytes) → SamePublic b b
-same_board b = record { six = refl; turn = refl; queues = λ queue h. record { count = refl; fill = record { held = refl; turns = refl; kinds = λ i k. refl } } }
+same_board b = record { six = refl; turn = refl; queues = λ queue h. record { count = refl; held = refl; turns = refl; kind = refl } }
 
 refused_same : (b : Bytes) (c : Call Bytes) (number : ℕ) → (did b c).answer ≡ Refused number → ((did b c).board ≡ b) × ((did b c).buffer ≡ buffer_of c)
 refused_same b c number e = let u = refused_unchanged b c number e in (u.board, u.buffer)

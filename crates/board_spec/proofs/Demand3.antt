@@ -25,7 +25,7 @@ use Rattle.board_spec.specs.Board.{Refused, Ticket, Did, quarter_of, submit_boar
 use Rattle.board_spec.specs.Run.{Bytes, Calls, zero_board, did, board_after, Reply, reply_by, buffer_of, record_of, turn_reply, sight_reply, reply_of, fields_of, public_event}
 use Rattle.board_spec.specs.Rep.{Rep}
 use Rattle.board_spec.specs.Demand3.{Place, board_at, did_at, event_at, Release, sealed_in, Course, held, since, turns_since, handed_since, event_then, IsLast, ended_job, Orderly, SealedAlike, Demand3}
-use Rattle.board_spec.proofs.Sim.{Simulates, simulates, zero_rep, turn_others, submit_others}
+use Rattle.board_spec.proofs.Whole.{Simulates, simulates, zero_rep, turn_others, submit_others}
 use Rattle.board_spec.proofs.Runs.{rep_after, run_scheduled, served_by, public_part, sealed_part, public_told, look_unchanged, quote_unchanged, refused_unchanged}
 
 -- ---- what an answer tells of the event
@@ -129,7 +129,7 @@ module _ (run : Calls) where
 
   serves_named : (p : Place run) (queue : ℕ) (o : Option (Held Bytes)) → event_at p ≡ served queue o → u64_at (board_at p) turn_at ≡ queue
   unfolding board_at event_at
-  serves_named p queue o e = (rep_at p.before).shows.turn ∙ sym (served_by (after_all length fresh p.before) p.call queue o e).queue_is
+  serves_named p queue o e = (rep_at p.before).turn ∙ sym (served_by (after_all length fresh p.before) p.call queue o e).queue_is
 
   turn_of : (b : Bytes) (c : Call Bytes) (buffer : Bytes) → c ≡ Turn buffer → did b c ≡ turn_board b buffer
   unfolding did

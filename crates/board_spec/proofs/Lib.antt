@@ -4,6 +4,7 @@ pub mod Tested
 pub mod AnyQuarter
 pub mod Queue
 pub mod Sim
+pub mod Whole
 pub mod Stored
 pub mod Runs
 pub mod Fits

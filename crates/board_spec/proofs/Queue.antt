@@ -25,7 +25,7 @@ use Rattle.stepping.proofs.Laws.{stepping}
 use Rattle.board_spec.specs.Quarter.{load_state, first_ticket, slot_of, first_slot, first_kind, first_job, slot_fits, slots_fit, quarter_fits, spans_from, turns_left, submit_quarter, state_of, stepped_of, kept_quarter, freed_quarter, DidQuarter, turn_quarter}
 use Rattle.board_spec.specs.Board.{Turned}
 use Rattle.board_spec.specs.Run.{Bytes, record_of, turn_reply, turning, public_of, public_out}
-use Rattle.board_spec.specs.Rep.{InSlot, Stands, no_more, stands, Waiting, nobody, waits, Running, idle, runs, ShowsQueue, Searched, no_job, searched, RepQueue}
+use Rattle.board_spec.specs.Rep.{InSlot, Stands, no_more, stands, Waiting, nobody, waits, Begun, none_begun, begun, ShowsQueue, Searched, no_job, searched, PartedQueue}
 use Rattle.board_spec.proofs.Bytes.{SameSlot, slot_tail}
 use Rattle.board_spec.proofs.Tested.{state_fits_same, UnderWay, Tested, tested_quarter}
 use Rattle.board_spec.proofs.Quarters.{slot_low, Added, added, freed}
@@ -89,34 +89,34 @@ stands_rest (stands i e rest) = rest
 
 -- ---- the running job
 
-runs_below : {j : Held Bytes} {js : List (Held Bytes)} → Running (j ∷ js) → j.turns < span_of j.kind
-runs_below (runs h w) = h
+runs_below : {j : Held Bytes} {js : List (Held Bytes)} → Begun (j ∷ js) → j.turns < span_of j.kind
+runs_below (begun h w) = h
 
-runs_waiting : {j : Held Bytes} {js : List (Held Bytes)} → Running (j ∷ js) → Waiting js
-runs_waiting (runs h w) = w
+runs_waiting : {j : Held Bytes} {js : List (Held Bytes)} → Begun (j ∷ js) → Waiting js
+runs_waiting (begun h w) = w
 
 waiting_turns : {js : List (Held Bytes)} → Waiting js → turns_of js ≡ 0
 unfolding turns_of
 waiting_turns nobody = refl
 waiting_turns (waits e w) = e
 
-fresh_runs : (j : Held Bytes) (js : List (Held Bytes)) → j.turns ≡ 0 → Waiting js → Running (j ∷ js)
+fresh_runs : (j : Held Bytes) (js : List (Held Bytes)) → j.turns ≡ 0 → Waiting js → Begun (j ∷ js)
 fresh_runs j js e w =
     let s = span_within j.kind in
     let below : j.turns < span_of j.kind = omega arith in
-    runs below w
+    begun below w
 
-waiting_runs : {js : List (Held Bytes)} → Waiting js → Running js
-waiting_runs nobody = idle
+waiting_runs : {js : List (Held Bytes)} → Waiting js → Begun js
+waiting_runs nobody = none_begun
 waiting_runs (waits {j} {js} e w) = fresh_runs j js e w
 
 waiting_more : {js : List (Held Bytes)} (j : Held Bytes) → j.turns ≡ 0 → Waiting js → Waiting (js ++ (j ∷ []))
 waiting_more j e nobody = waits e nobody
 waiting_more j e (waits e' w) = waits e' (waiting_more j e w)
 
-running_more : {js : List (Held Bytes)} (j : Held Bytes) → j.turns ≡ 0 → Running js → Running (js ++ (j ∷ []))
-running_more j e idle = fresh_runs j [] e nobody
-running_more j e (runs h w) = runs h (waiting_more j e w)
+running_more : {js : List (Held Bytes)} (j : Held Bytes) → j.turns ≡ 0 → Begun js → Begun (js ++ (j ∷ []))
+running_more j e none_begun = fresh_runs j [] e nobody
+running_more j e (begun h w) = begun h (waiting_more j e w)
 
 turns_more : (js : List (Held Bytes)) (j : Held Bytes) → j.turns ≡ 0 → turns_of (js ++ (j ∷ [])) ≡ turns_of js
 unfolding turns_of
@@ -172,7 +172,7 @@ slots_fit_lem {q} {t} (stands {j = j} {js = js} i ek rest) s e =
     let ns : count_fits (u64_at q (kind_at (slot_of s))) (u64_at q (count_at (slot_of s))) ≡ true = rw (e, i.kind, i.n) i.request.fit_count in
     both _ _ (both _ _ ks ns) (slots_fit_lem rest (s + 1) (slot_next s t e))
 
-first_under_way : (c : ℕ) (j : Held Bytes) (js : List (Held Bytes)) (q : Bytes) → RepQueue c (j ∷ js) q → 1 ≤ j.turns → UnderWay q
+first_under_way : (c : ℕ) (j : Held Bytes) (js : List (Held Bytes)) (q : Bytes) → PartedQueue c (j ∷ js) q → 1 ≤ j.turns → UnderWay q
 first_under_way c j js q r h =
     let i = first_in c j js q r.shows in
     record {
@@ -181,12 +181,12 @@ first_under_way c j js q r h =
       state = state_fits_same i.kind (state_then r.state h) (stepping.fits j.kind j.n j.block i.request j.turns);
     }
 
-running_tested : (c : ℕ) (js : List (Held Bytes)) (q : Bytes) → RepQueue c js q → 1 ≤ u64_at q turns_at → UnderWay q
+running_tested : (c : ℕ) (js : List (Held Bytes)) (q : Bytes) → PartedQueue c js q → 1 ≤ u64_at q turns_at → UnderWay q
 unfolding turns_of
 running_tested c [] q r h = let t = r.shows.turns in absurd (omega arith)
 running_tested c (j ∷ js) q r h = let t = turns_first c j js q r.shows in first_under_way c j js q r (omega arith)
 
-quarter_good : (c : ℕ) (js : List (Held Bytes)) (q : Bytes) → RepQueue c js q → Tested q
+quarter_good : (c : ℕ) (js : List (Held Bytes)) (q : Bytes) → PartedQueue c js q → Tested q
 quarter_good c js q r =
     record {
       few = rw r.shows.held r.shows.few;
@@ -194,7 +194,7 @@ quarter_good c js q r =
       running = running_tested c js q r;
     }
 
-pub quarter_fits_lem : (c : ℕ) (js : List (Held Bytes)) (q : Bytes) → RepQueue c js q → quarter_fits q ≡ true
+pub quarter_fits_lem : (c : ℕ) (js : List (Held Bytes)) (q : Bytes) → PartedQueue c js q → quarter_fits q ≡ true
 quarter_fits_lem c js q r = tested_quarter q (quarter_good c js q r)
 
 -- ---- the turns that the jobs still need
@@ -207,10 +207,10 @@ spans_work {q} {t} (stands {j = j} i ek rest) (waits n w) s e =
     let m = spans_work rest w (s + 1) (slot_next s t e) in
     rw (k, m) (omega arith)
 
-left_first : {q : Bytes} {t : ℕ} {js : List (Held Bytes)} → Stands q t js → Running js → (s : ℕ) → s % 8 ≡ t % 8 → spans_from q s (length js) - turns_of js ≡ work js
+left_first : {q : Bytes} {t : ℕ} {js : List (Held Bytes)} → Stands q t js → Begun js → (s : ℕ) → s % 8 ≡ t % 8 → spans_from q s (length js) - turns_of js ≡ work js
 unfolding spans_from work left turns_of
 left_first no_more r s e = refl
-left_first {q} {t} (stands {j = j} i ek rest) (runs h w) s e =
+left_first {q} {t} (stands {j = j} i ek rest) (begun h w) s e =
     let k : u64_at q (kind_at (slot_of s)) ≡ j.kind = ap (λ (x : ℕ). u64_at q (kind_at x)) e ∙ i.kind in
     let m = spans_work rest w (s + 1) (slot_next s t e) in
     rw (k, m) (omega arith)
@@ -340,7 +340,7 @@ module _ (c : ℕ) (j : Held Bytes) (js : List (Held Bytes)) (q : Bytes) (r : Sh
         enough = r.enough;
         turns = w.turns ∙ ap (λ (x : ℕ). x + 1) (turns_first c j js q r);
         slots = turned_stands (stands_tail (kept_quarter q) q (c - suc (length js)) (j ∷ js) w.slots r.slots);
-        running = runs below (runs_waiting r.running);
+        running = begun below (runs_waiting r.running);
       }
 
   out_public : (queue : ℕ) (buffer : Bytes) → 64 ≤ length buffer
@@ -368,7 +368,7 @@ pub record Turns (queue c : ℕ) (js : List (Held Bytes)) (q buffer : Bytes) : T
   pub shows : ShowsQueue c (undergo js).jobs (turn_quarter queue q buffer).quarter
   pub state : Searched (turn_quarter queue q buffer).quarter (undergo js).jobs
 
-turns_by : (queue c : ℕ) (js : List (Held Bytes)) (q buffer : Bytes) → RepQueue c js q → (d : DidQuarter) (u : Undergone Bytes) → turn_quarter queue q buffer ≡ d → undergo js ≡ u
+turns_by : (queue c : ℕ) (js : List (Held Bytes)) (q buffer : Bytes) → PartedQueue c js q → (d : DidQuarter) (u : Undergone Bytes) → turn_quarter queue q buffer ≡ d → undergo js ≡ u
     → record { answer = Turned d.answer; buffer = d.buffer } ≡ turn_reply buffer queue u.out → Searched d.quarter u.jobs → Turns queue c js q buffer
 turns_by queue c js q buffer r d u ed eu reply state =
     record { reply = rw (ed, eu) reply; shows = (turn_shows queue c js q buffer r.shows (quarter_good c js q r)).shows; state = rw (ed, eu) state }
@@ -386,7 +386,7 @@ state_next : (job : Job) (k : ℕ) → step_of job (state_after job k) ≡ state
 unfolding state_after
 state_next job k = rw (add-one k)
 
-module _ (c : ℕ) (j : Held Bytes) (js : List (Held Bytes)) (q : Bytes) (r : RepQueue c (j ∷ js) q) where
+module _ (c : ℕ) (j : Held Bytes) (js : List (Held Bytes)) (q : Bytes) (r : PartedQueue c (j ∷ js) q) where
   state_of_lem : state_of q ≡ state_after (job_of j) j.turns
   unfolding state_of
   state_of_lem =
@@ -421,7 +421,7 @@ module _ (c : ℕ) (j : Held Bytes) (js : List (Held Bytes)) (q : Bytes) (r : Re
   turn_some queue buffer false e =
       turns_by queue c (j ∷ js) q buffer r _ _ (turn_on queue q buffer (held_some c j js q r.shows) (last_is c j js q r.shows false e)) (stays j js (eqb-false _ _ e)) refl kept_searched
 
-pub turn_rep : (queue c : ℕ) (js : List (Held Bytes)) (q buffer : Bytes) → RepQueue c js q → Turns queue c js q buffer
+pub turn_rep : (queue c : ℕ) (js : List (Held Bytes)) (q buffer : Bytes) → PartedQueue c js q → Turns queue c js q buffer
 unfolding turn_reply undergo
 turn_rep queue c [] q buffer r = turns_by queue c [] q buffer r _ (record { jobs = []; out = none }) (turn_idle queue q buffer (eq-eqb _ _ r.shows.held)) refl refl no_job
 turn_rep queue c (j ∷ js) q buffer r = turn_some c j js q r queue buffer (eqb (j.turns + 1) (span_of j.kind)) refl

@@ -28,7 +28,8 @@ use Rattle.board_spec.specs.Rep.{Shows, Rep}
 use Rattle.board_spec.specs.Demand1.{SameFill}
 use Rattle.board_spec.specs.Quoted.{taken, turns_taken, Planned, entered, turn_then, place, HandsOut, QuotedExact}
 use Rattle.board_spec.proofs.Tested.{board_tested}
-use Rattle.board_spec.proofs.Sim.{submit_accepted, follows, simulates, zero_rep, rep_fits}
+use Rattle.board_spec.proofs.Sim.{submit_accepted, follows}
+use Rattle.board_spec.proofs.Whole.{rep_parted, rep_fits, zero_rep, simulates}
 use Rattle.board_spec.proofs.Runs.{rep_after, quote_unchanged}
 use Rattle.board_spec.proofs.Fits.{passes_on}
 use Rattle.board_spec.proofs.AnyBoard.{schedule_of, shows_some, shows_after, some_sound, shows_ticketed}
@@ -322,7 +323,7 @@ module _ (run : Calls) (x : Planned (board_after zero_board run)) where
   fits_run = rep_fits σ₀ b₀ rep
 
   abbrev planned : Course.Course length σ₀
-  planned = course b₀ fits_run σ₀ rep.shows sound_run x
+  planned = course b₀ fits_run σ₀ (rep_parted rep).shows sound_run x
 
   rep_then : Rep (Course.reached planned) (board_after (entered x) x.between)
   unfolding entered
@@ -336,7 +337,7 @@ module _ (run : Calls) (x : Planned (board_after zero_board run)) where
       → (turn_then x).buffer ≡ splice x.buffer 0 (record_of x.queue (record { kind = x.kind; n = x.n; block = x.block; ticket = x.ticket; turns = span_of x.kind }))
   unfolding reply_by
   its_record e =
-      ap (λ (v : Reply). v.buffer) (reply_then ∙ ap (reply_of x.buffer) (then_event b₀ fits_run σ₀ rep.shows sound_run x e)) ∙ (unfold reply_of turn_reply in refl)
+      ap (λ (v : Reply). v.buffer) (reply_then ∙ ap (reply_of x.buffer) (then_event b₀ fits_run σ₀ (rep_parted rep).shows sound_run x e)) ∙ (unfold reply_of turn_reply in refl)
 
 -- ---- refused as by submit
 

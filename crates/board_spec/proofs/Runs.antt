@@ -16,7 +16,8 @@ use Rattle.schedule.proofs.Image.{maps_run}
 use Rattle.board_spec.specs.Board.{Refused, Did, refused_did, submit_judged, submit_board, turn_did, turn_judged, turn_board, look_judged, look_board, quote_judged, quote_board}
 use Rattle.board_spec.specs.Run.{Bytes, Calls, zero_board, did, board_after, Reply, replies, buffer_of, record_of, turn_reply, sight_reply, reply_of, scheduled, fields_of, Public, turning, public_of, public_out, public_event}
 use Rattle.board_spec.specs.Rep.{Rep}
-use Rattle.board_spec.proofs.Sim.{room, simulates, zero_rep}
+use Rattle.board_spec.proofs.Sim.{room}
+use Rattle.board_spec.proofs.Whole.{simulates, zero_rep}
 use Rattle.board_spec.proofs.AnyQuarter.{first_16}
 
 -- ---- any number of calls

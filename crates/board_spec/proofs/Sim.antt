@@ -21,7 +21,7 @@ use Rattle.stepping.proofs.Laws.{stepping}
 use Rattle.board_spec.specs.Quarter.{load_state, turns_left, submit_quarter, DidQuarter, turn_quarter}
 use Rattle.board_spec.specs.Board.{quarter_of, with_quarter, board_fits, Ticket, Shown, Quoted, Did, refused_did, submit_judged, submit_board, turn_did, turn_judged, turn_board, look_judged, look_board, quote_judged, quote_board}
 use Rattle.board_spec.specs.Run.{Bytes, zero_board, did, Reply, reply_by, buffer_of, sight_reply, reply_of, ticketed, looking, quoting, public_of, public_event}
-use Rattle.board_spec.specs.Rep.{no_more, idle, ShowsQueue, Shows, Searched, no_job, RepQueue, Rep}
+use Rattle.board_spec.specs.Rep.{no_more, none_begun, ShowsQueue, Shows, Searched, no_job, PartedQueue, Parted}
 use Rattle.board_spec.proofs.Tested.{quarter_tested, board_tested, tested_board}
 use Rattle.board_spec.proofs.Queue.{state_then, quarter_fits_lem, turns_left_lem, submit_shows, submit_searched, TurnShows, turn_shows, request_of, Turns, turn_rep}
 use Rattle.schedule.proofs.Tests.{check_ok, check_next}
@@ -59,12 +59,12 @@ turn_with b v q lv h = ap Rattle.buf.specs.Bytes.le (part_splice_after b (quarte
 
 -- ---- a board that stands for a schedule passes 6
 
-rep_queue : {σ : Schedule Bytes} {b : Bytes} → Rep σ b → (queue : ℕ) → queue ≤ 3 → RepQueue (σ.queues queue).count (σ.queues queue).jobs (quarter_of b queue)
-rep_queue r queue h = record { shows = r.shows.each queue h; state = r.state queue h }
+parted_queue : {σ : Schedule Bytes} {b : Bytes} → Parted σ b → (queue : ℕ) → queue ≤ 3 → PartedQueue (σ.queues queue).count (σ.queues queue).jobs (quarter_of b queue)
+parted_queue r queue h = record { shows = r.shows.each queue h; state = r.state queue h }
 
-pub rep_fits : (σ : Schedule Bytes) (b : Bytes) → Rep σ b → board_fits b ≡ true
-rep_fits σ b r =
-    tested_board b (record { length_is = r.shows.len; turn_inside = rw r.shows.turn r.shows.low; quarters_inside = λ s h. quarter_fits_lem _ _ (quarter_of b s) (rep_queue r s h) })
+pub parted_fits : (σ : Schedule Bytes) (b : Bytes) → Parted σ b → board_fits b ≡ true
+parted_fits σ b r =
+    tested_board b (record { length_is = r.shows.len; turn_inside = rw r.shows.turn r.shows.low; quarters_inside = λ s h. quarter_fits_lem _ _ (quarter_of b s) (parted_queue r s h) })
 
 -- ---- the fresh board
 
@@ -83,7 +83,7 @@ zeros_show =
       enough = omega arith;
       turns = num_at_zeros 8 quarter_length turns_at refl;
       slots = no_more;
-      running = idle;
+      running = none_begun;
     }
 
 zero_length : length zero_board ≡ board_length
@@ -94,9 +94,9 @@ zero_turn : u64_at zero_board turn_at ≡ 0
 unfolding zero_board
 zero_turn = num_at_zeros 8 board_length turn_at refl
 
-pub zero_rep : Rep fresh zero_board
+pub zero_parted : Parted fresh zero_board
 unfolding fresh
-zero_rep =
+zero_parted =
     record {
       shows = record {
         len = zero_length;
@@ -345,11 +345,11 @@ module _ (σ : Schedule Bytes) (b : Bytes) (fits : board_fits b ≡ true) (r : S
 
 -- ---- the calls, on a board that stands for a schedule
 
-pub record Simulates (d : Did) (buffer : Bytes) (h : Happened Bytes) : Type 0 where
+pub record PartedSimulates (d : Did) (buffer : Bytes) (h : Happened Bytes) : Type 0 where
   pub reply : reply_by d ≡ reply_of buffer h.event
-  pub rep : Rep h.after d.board
+  pub rep : Parted h.after d.board
 
-module _ (σ : Schedule Bytes) (b : Bytes) (r : Rep σ b) where
+module _ (σ : Schedule Bytes) (b : Bytes) (r : Parted σ b) where
   abbrev States : Schedule Bytes → Bytes → Type 0
   States τ c = (queue : ℕ) → queue ≤ 3 → Searched (quarter_of c queue) (τ.queues queue).jobs
 
@@ -359,7 +359,7 @@ module _ (σ : Schedule Bytes) (b : Bytes) (r : Rep σ b) where
     state : States h.after d.board
 
   fits : board_fits b ≡ true
-  fits = rep_fits σ b r
+  fits = parted_fits σ b r
 
   refused_sim : (buffer : Bytes) (number : ℕ) → Replies (refused_did b buffer number) buffer (record { event = refused number; after = σ })
   unfolding refused_did reply_by reply_of
@@ -390,7 +390,7 @@ module _ (σ : Schedule Bytes) (b : Bytes) (r : Rep σ b) where
   submit_sim queue kind n block = rw (submit_verdict_lem σ b fits r.shows queue kind n block) (submit_sim_judged queue kind n block _ refl)
 
   served_rep : (buffer : Bytes) → Turns σ.turn (σ.queues σ.turn).count (σ.queues σ.turn).jobs (quarter_of b σ.turn) buffer
-  served_rep buffer = turn_rep σ.turn _ _ (quarter_of b σ.turn) buffer (rep_queue r σ.turn r.shows.low)
+  served_rep buffer = turn_rep σ.turn _ _ (quarter_of b σ.turn) buffer (parted_queue r σ.turn r.shows.low)
 
   turn_sim_taken : (buffer : Bytes) → Replies (turn_judged b buffer accept) buffer (turn_taken σ)
   unfolding turn_judged turn_did turn_taken serves reply_by reply_of with_jobs
@@ -422,7 +422,7 @@ module _ (σ : Schedule Bytes) (b : Bytes) (r : Rep σ b) where
   unfolding sight_reply
   sight_state s w e = ap (λ (x : Sight). record { answer = Shown x.evaluations x.density; buffer = [] }) e
 
-  look_seen : (queue : ℕ) (c : ℕ) (js : List (Held Bytes)) → RepQueue c js (quarter_of b queue) → 1 ≤ turns_of js
+  look_seen : (queue : ℕ) (c : ℕ) (js : List (Held Bytes)) → PartedQueue c js (quarter_of b queue) → 1 ≤ turns_of js
       → ◌≡◌ {A = Reply} (record { answer = Shown (load_state (quarter_of b queue)).evaluations (load_state (quarter_of b queue)).latest; buffer = [] }) (reply_of [] (looked_at js))
   unfolding turns_of looked_at reply_of
   look_seen queue c [] rq h = absurd (omega arith)
@@ -433,7 +433,7 @@ module _ (σ : Schedule Bytes) (b : Bytes) (r : Rep σ b) where
 
   look_sim_taken : (queue : ℕ) → queue ≤ 3 → 1 ≤ turns_of (σ.queues queue).jobs → Replies (look_judged b queue accept) [] (record { event = looked_at (σ.queues queue).jobs; after = σ })
   unfolding look_judged reply_by
-  look_sim_taken queue low h = record { reply = look_seen queue (σ.queues queue).count (σ.queues queue).jobs (rep_queue r queue low) h; state = r.state }
+  look_sim_taken queue low h = record { reply = look_seen queue (σ.queues queue).count (σ.queues queue).jobs (parted_queue r queue low) h; state = r.state }
 
   look_sim_judged : (queue : ℕ) (v : Verdict) → look_verdict queue (turns_of (σ.queues queue).jobs) ≡ v → Replies (look_judged b queue v) [] (judged σ (Look queue) v)
   unfolding judged acts
@@ -454,13 +454,13 @@ module _ (σ : Schedule Bytes) (b : Bytes) (r : Rep σ b) where
   replies_by (Look queue) = look_sim queue
   replies_by (Quote queue kind) = quote_sim queue kind
 
-  pub simulates : (c : Call Bytes) → Simulates (did b c) (buffer_of c) (happens length σ c)
-  simulates c = let s = replies_by c in record { reply = s.reply; rep = record { shows = (follows σ b fits r.shows c).shows; state = s.state } }
+  pub parted_simulates : (c : Call Bytes) → PartedSimulates (did b c) (buffer_of c) (happens length σ c)
+  parted_simulates c = let s = replies_by c in record { reply = s.reply; rep = record { shows = (follows σ b fits r.shows c).shows; state = s.state } }
 
   -- a turn leaves the quarters of the other queues
-  pub turn_others : (buffer : Bytes) → turn_verdict (length buffer) ≡ accept → (q : ℕ) → q ≤ 3 → (q ≡ σ.turn → ⊥) → quarter_of (turn_board b buffer).board q ≡ quarter_of b q
+  pub parted_turn_others : (buffer : Bytes) → turn_verdict (length buffer) ≡ accept → (q : ℕ) → q ≤ 3 → (q ≡ σ.turn → ⊥) → quarter_of (turn_board b buffer).board q ≡ quarter_of b q
   unfolding turn_board
-  turn_others buffer v q h n = rw (six σ b fits r.shows (turn_verdict (length buffer)), v) others
+  parted_turn_others buffer v q h n = rw (six σ b fits r.shows (turn_verdict (length buffer)), v) others
     where
       len : length (turn_quarter σ.turn (quarter_of b σ.turn) buffer).quarter ≡ quarter_length
       len = (served_shows σ b fits r.shows buffer).shows.len
@@ -481,6 +481,6 @@ module _ (σ : Schedule Bytes) (b : Bytes) (r : Rep σ b) where
       quarter_other b (submit_quarter (quarter_of b queue) kind n block) queue q rv.len ne
   judged_others queue kind n block (refuse number) e q ne = refl
 
-  pub submit_others : (queue kind n : ℕ) (block : Bytes) (q : ℕ) → (q ≡ queue → ⊥) → quarter_of (submit_board b queue kind n block).board q ≡ quarter_of b q
+  pub parted_submit_others : (queue kind n : ℕ) (block : Bytes) (q : ℕ) → (q ≡ queue → ⊥) → quarter_of (submit_board b queue kind n block).board q ≡ quarter_of b q
   unfolding submit_board
-  submit_others queue kind n block q ne = rw (submit_verdict_lem σ b fits r.shows queue kind n block) (judged_others queue kind n block _ refl q ne)
+  parted_submit_others queue kind n block q ne = rw (submit_verdict_lem σ b fits r.shows queue kind n block) (judged_others queue kind n block _ refl q ne)

@@ -6,7 +6,7 @@ use Rattle.reader.specs.View.{view}
 use Rattle.records.specs.Record.{sealed_bytes, sealed_of}
 use Rattle.records.specs.Statuses.{Sealed}
 use Rattle.schedule.specs.Spans.{span_of}
-use Rattle.schedule.specs.Schedule.{Call, accept, refuse, turns_until, map_call}
+use Rattle.schedule.specs.Schedule.{Call, Submit, Turn, Look, Quote, accept, refuse, turns_until, map_call}
 use Rattle.schedule.specs.Refusals.{Exactly, Inside, SubmitTests, TurnTests, LookTests, QuoteTests}
 use Rattle.stepping.specs.States.{state_after, outcome_at}
 use Rattle.board_spec.specs.Layout.{evaluations_at, latest_at}
@@ -71,21 +71,30 @@ pub record Spans : Type 0 where
 
 -- ---- boards that may differ in their blocks and in what they store of a search, and in nothing that is public
 
--- the same number of jobs held, with the same kinds in order, and the same turns had by the first
-pub record SameFill (b b' : Bytes) (queue : ℕ) : Type 0 where
-  pub held : held_in b queue ≡ held_in b' queue
-  pub turns : turns_in b queue ≡ turns_in b' queue
-  pub kinds : (i : ℕ) → i < held_in b queue → kind_after b queue i ≡ kind_after b' queue i
-
 pub record SameQueue (b b' : Bytes) (queue : ℕ) : Type 0 where
   pub count : count_in b queue ≡ count_in b' queue
-  pub fill : SameFill b b' queue
+  pub held : held_in b queue ≡ held_in b' queue
+  pub turns : turns_in b queue ≡ turns_in b' queue
+  pub kind : kind_in b queue ≡ kind_in b' queue
 
 pub record SamePublic (b b' : Bytes) : Type 0 where
   -- both pass 6, or neither does
   pub six : board_fits b ≡ board_fits b'
   pub turn : served_in b ≡ served_in b'
   pub queues : (queue : ℕ) → queue ≤ 3 → SameQueue b b' queue
+
+-- the same number of jobs held, with the same kinds in order, and the same turns had by the first: what a quote is told by besides
+pub record SameFill (b b' : Bytes) (queue : ℕ) : Type 0 where
+  pub held : held_in b queue ≡ held_in b' queue
+  pub turns : turns_in b queue ≡ turns_in b' queue
+  pub kinds : (i : ℕ) → i < held_in b queue → kind_after b queue i ≡ kind_after b' queue i
+
+-- of a quote's queue the kinds of all jobs, of any other call nothing more
+abbrev pub SameAsked : (b b' : Bytes) → Call Bytes → Type 0
+SameAsked b b' (Submit queue kind n block) = Unit {0}
+SameAsked b b' (Turn buffer) = Unit {0}
+SameAsked b b' (Look queue) = Unit {0}
+SameAsked b b' (Quote queue kind) = queue ≤ 3 → SameFill b b' queue
 
 -- ---- the demand
 
@@ -105,7 +114,7 @@ pub record Demand1 : Type 0 where
   -- submit answers the same whatever stands in the block,
   pub block_unread : (b : Bytes) (queue kind n : ℕ) (block block' : Bytes) → length block ≡ length block' → (submit_board b queue kind n block).answer ≡ (submit_board b queue kind n block').answer
   -- and all that is public of any call, a record's first 16 bytes too, is the same whatever the blocks brought and stored, and the searches, are
-  pub data_unseen : (b b' : Bytes) → SamePublic b b' → (c c' : Call Bytes) → map_call length c ≡ map_call length c' → public_of (reply_by (did b c)) ≡ public_of (reply_by (did b' c'))
+  pub data_unseen : (b b' : Bytes) → SamePublic b b' → (c c' : Call Bytes) → map_call length c ≡ map_call length c' → SameAsked b b' c → public_of (reply_by (did b c)) ≡ public_of (reply_by (did b' c'))
   -- every other request runs to an answer: a job that submit accepts, on any board, has sealed bytes with a status 0, 11 to 17 or 21 to 27 and at most its span's evaluations,
   pub accepted_sealed : (b : Bytes) (queue kind n : ℕ) (block : Bytes) (ticket : ℕ) → (submit_board b queue kind n block).answer ≡ Ticket ticket → Sealed kind n block
   -- has reached them after its span's turns,

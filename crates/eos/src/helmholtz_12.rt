@@ -4,10 +4,10 @@
 ghost use Rattle.std.specs.Prelude.{◌≡◌, List, ℕ, ◌+◌, ◌*◌, ◌≤◌, Float};
 ghost use Rattle.float.specs.Ops.{◌⊗◌, ◌⊖◌, f1};
 ghost use Rattle.float.specs.Root.{root as root_of};
-ghost use Rattle.jet.specs.Coefficients.{at, Upto, number_of, root_of as jetRootOf};
+ghost use Rattle.jet.specs.Coefficients.{at, Upto, number_of, root_of as jet_root_of};
 ghost use Rattle.jet.specs.Ops.{◌⊠◌};
 ghost use Rattle.eos.specs.Cubic.{ak_of, repulsion, log_ratio, attraction, contribution};
-ghost use Rattle.eos.specs.Helmholtz.{partial_density, Mixes, helmholtz as helmholtzOf};
+ghost use Rattle.eos.specs.Helmholtz.{partial_density, Mixes, helmholtz as helmholtz_of};
 
 use crate::types::{Blend, Mixture};
 use jet::Jet;
@@ -28,7 +28,7 @@ fn ak(t: Jet, tc: f64, kappa: f64, a: f64) -> Jet
 // The root of ak_i * ak_j, which a term of ak_mix begins with; root is its coefficient at position 0.
 fn ak_root(root: f64, ai: Jet, aj: Jet) -> Jet
     requires { root ≡ root_of (at ai.c 0 ⊗ at aj.c 0) }
-    ensures { Upto 12 result.c (jetRootOf (ai.c ⊠ aj.c)) }
+    ensures { Upto 12 result.c (jet_root_of (ai.c ⊠ aj.c)) }
 {
     jet_gradient::sqrt_12_from(root, jet_gradient::mul_12(ai, aj))
 }
@@ -98,7 +98,7 @@ fn alone(blend: Blend, t: Jet, v: Jet, moles: Jet) -> Mixture
 
 // `residual_helmholtz_energy` of what the components make together.
 fn energy(m: Mixture, t: Jet, v: Jet) -> Jet
-    ensures { (b : Blend) (n : ℕ) → 1 ≤ n → (moles : ℕ → List Float) → Mixes 12 b n t.c (partial_density moles v.c) m → Upto 12 result.c (helmholtzOf b n t.c v.c moles) }
+    ensures { (b : Blend) (n : ℕ) → 1 ≤ n → (moles : ℕ → List Float) → Mixes 12 b n t.c (partial_density moles v.c) m → Upto 12 result.c (helmholtz_of b n t.c v.c moles) }
 {
     let density = m.density;
     let a = m.a;
@@ -109,7 +109,7 @@ fn energy(m: Mixture, t: Jet, v: Jet) -> Jet
 
 // `residual_helmholtz_energy` of one component of the mole number moles.
 pub fn helmholtz_of_one(blend: Blend, t: Jet, v: Jet, moles: Jet) -> Jet
-    ensures { Upto 12 result.c (helmholtzOf blend 1 t.c v.c (λ i. moles.c)) }
+    ensures { Upto 12 result.c (helmholtz_of blend 1 t.c v.c (λ i. moles.c)) }
 {
     energy(alone(blend, t, v, moles), t, v)
 }

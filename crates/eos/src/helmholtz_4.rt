@@ -8,7 +8,7 @@ ghost use Rattle.jet.specs.Coefficients.{at, Upto, number_of};
 ghost use Rattle.jet.specs.Ops.{◌⧄◌};
 ghost use Rattle.eos.specs.Jets.{jet_at};
 ghost use Rattle.eos.specs.Cubic.{nth, ak_of, mix_term, ak_mix, b_mix, repulsion, log_ratio, attraction, contribution};
-ghost use Rattle.eos.specs.Helmholtz.{partial_density, Mixes, helmholtz as helmholtzOf};
+ghost use Rattle.eos.specs.Helmholtz.{partial_density, Mixes, helmholtz as helmholtz_of};
 
 use crate::mixture::{firsts, root_place, roots, sum};
 use crate::types::{Blend, Mixture};
@@ -218,7 +218,7 @@ fn mix(n: usize, blend: Blend, t: Jet, v: Jet) -> Mixture
 // `residual_helmholtz_energy`. The mixture's branches meet before the one call of `contribute`, so that it is compiled into this function.
 pub fn helmholtz(n: usize, blend: Blend, t: Jet, v: Jet) -> Jet
     requires { (1 ≤ n) × (n ≤ 8) }
-    ensures { Upto 4 result.c (helmholtzOf blend n t.c v.c (λ i. number_of (nth blend.x i))) }
+    ensures { Upto 4 result.c (helmholtz_of blend n t.c v.c (λ i. number_of (nth blend.x i))) }
 {
     let m = mix(n, blend, t, v);
     let density = m.density;

@@ -4,11 +4,11 @@
 ghost use Rattle.std.specs.Prelude.{◌≡◌, List, ℕ, ◌+◌, ◌*◌, ◌≤◌, Float};
 ghost use Rattle.float.specs.Ops.{◌⊗◌, ◌⊖◌, f1};
 ghost use Rattle.float.specs.Root.{root as root_of};
-ghost use Rattle.jet.specs.Coefficients.{at, Upto, number_of, root_of as jetRootOf};
+ghost use Rattle.jet.specs.Coefficients.{at, Upto, number_of, root_of as jet_root_of};
 ghost use Rattle.jet.specs.Ops.{◌⊠◌};
 ghost use Rattle.eos.specs.Jets.{pair_of};
 ghost use Rattle.eos.specs.Cubic.{nth, ak_of, ak_mix, b_mix, repulsion, log_ratio, attraction, contribution};
-ghost use Rattle.eos.specs.Helmholtz.{aks_of, AkRoots, partial_density, Mixes, helmholtz as helmholtzOf};
+ghost use Rattle.eos.specs.Helmholtz.{aks_of, AkRoots, partial_density, Mixes, helmholtz as helmholtz_of};
 
 use crate::types::{Blend, Mixture, PairRoots};
 use jet::Jet;
@@ -30,7 +30,7 @@ fn ak(w: usize, t: Jet, tc: f64, kappa: f64, a: f64) -> Jet
 // The root of ak_i * ak_j, which a term of ak_mix begins with; root is its coefficient at position 0.
 fn ak_root(w: usize, root: f64, ai: Jet, aj: Jet) -> Jet
     requires { (1 ≤ w) × (w ≤ 20) × (root ≡ root_of (at ai.c 0 ⊗ at aj.c 0)) }
-    ensures { Upto w result.c (jetRootOf (ai.c ⊠ aj.c)) }
+    ensures { Upto w result.c (jet_root_of (ai.c ⊠ aj.c)) }
 {
     jet_gradient::sqrt_from(w, root, jet_gradient::mul(w, ai, aj))
 }
@@ -129,7 +129,7 @@ fn two(w: usize, blend: Blend, root: PairRoots, v: Jet, n1: Jet, n2: Jet) -> Mix
 // `residual_helmholtz_energy` of what the components make together.
 fn energy(w: usize, m: Mixture, t: Jet, v: Jet) -> Jet
     requires { (1 ≤ w) × (w ≤ 20) }
-    ensures { (b : Blend) (n : ℕ) → 1 ≤ n → (moles : ℕ → List Float) → Mixes w b n t.c (partial_density moles v.c) m → Upto w result.c (helmholtzOf b n t.c v.c moles) }
+    ensures { (b : Blend) (n : ℕ) → 1 ≤ n → (moles : ℕ → List Float) → Mixes w b n t.c (partial_density moles v.c) m → Upto w result.c (helmholtz_of b n t.c v.c moles) }
 {
     let density = m.density;
     let a = m.a;
@@ -167,7 +167,7 @@ pub fn helmholtz_of_two(
     n2: Jet,
 ) -> Jet
     requires { (1 ≤ w) × (w ≤ 20) × AkRoots w (aks_of blend t.c) root }
-    ensures { Upto w result.c (helmholtzOf blend 2 t.c v.c (pair_of n1.c n2.c)) }
+    ensures { Upto w result.c (helmholtz_of blend 2 t.c v.c (pair_of n1.c n2.c)) }
 {
     energy(w, two(w, blend, root, v, n1, n2), t, v)
 }

@@ -3,7 +3,7 @@
 ghost use Rattle.std.specs.Prelude.{◌≤◌};
 ghost use Rattle.jet.specs.Coefficients.{Upto, number_of};
 ghost use Rattle.jet.specs.Ops.{◌⊞◌, ◌⊠◌};
-ghost use Rattle.evaluations.specs.Critical.{moved as movedOf, ideal_term};
+ghost use Rattle.evaluations.specs.Critical.{moved as moved_of, ideal_term};
 
 use jet::Jet;
 
@@ -19,7 +19,7 @@ pub fn entry(w: usize, h: Jet, si: Jet, sj: Jet, one: f64) -> Jet
 // The fraction z moved by s = 0 + e0 along the entry u of the eigenvector.
 pub fn moved(w: usize, z: Jet, u: Jet) -> Jet
     requires { w ≤ 20 }
-    ensures { Upto w result.c (movedOf z.c u.c) }
+    ensures { Upto w result.c (moved_of z.c u.c) }
 {
     let direction = jet_gradient::mul(w, jet_gradient::sqrt(w, z), u);
     jet_gradient::add(w, z, jet_gradient::mul(w, direction, jet::marked(1, 0.0)))

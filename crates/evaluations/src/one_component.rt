@@ -6,7 +6,7 @@ ghost use Rattle.std.specs.Float.Ieee.{to_bits};
 ghost use Rattle.float.specs.Ops.{f1};
 ghost use Rattle.jet.specs.Coefficients.{Upto, number_of};
 ghost use Rattle.eos.specs.Cubic.{nth};
-ghost use Rattle.evaluations.specs.Critical.{energy_over_t, along, eigenvalue, moved as movedOf, third_derivative, fractions_of};
+ghost use Rattle.evaluations.specs.Critical.{energy_over_t, along, eigenvalue, moved as moved_of, third_derivative, fractions_of};
 
 use crate::mole_numbers::{entry, ideal_gas, moved};
 use crate::types::ConditionJets;
@@ -47,7 +47,7 @@ fn is_one(z: f64) -> bool
 
 // The mole number moved along the eigenvector 1.
 fn moved_along_one(z: f64) -> Jet
-    ensures { Upto 12 result.c (movedOf (number_of z) (number_of f1)) }
+    ensures { Upto 12 result.c (moved_of (number_of z) (number_of f1)) }
 {
     if is_one(z) {
         return jet::marked(1, z);
@@ -57,7 +57,7 @@ fn moved_along_one(z: f64) -> Jet
 
 // The energy at the moved mole number n, which is e where that is the marked one.
 fn moved_energy(blend: Blend, t: Jet, v: Jet, n: Jet, e: Jet) -> Jet
-    requires { Upto 12 n.c (movedOf (number_of (nth blend.x 0)) (number_of f1)) × Upto 12 e.c (energy_over_t blend 1 t.c v.c (along (fractions_of blend) (eqb 0))) }
+    requires { Upto 12 n.c (moved_of (number_of (nth blend.x 0)) (number_of f1)) × Upto 12 e.c (energy_over_t blend 1 t.c v.c (along (fractions_of blend) (eqb 0))) }
     ensures { Upto 12 result.c (energy_over_t blend 1 t.c v.c (λ i. n.c)) }
 {
     let x = blend.x;

@@ -4,7 +4,7 @@ ghost use Rattle.std.specs.Prelude.{◌≤◌};
 ghost use Rattle.jet.specs.Coefficients.{Upto, derivative_of};
 ghost use Rattle.eos.specs.Jets.{pair_of};
 ghost use Rattle.eos.specs.Helmholtz.{aks_of, AkRoots};
-ghost use Rattle.evaluations.specs.Critical.{energy_over_t, dmu_dn, matrix as matrixOf, eigenvalue, third_derivative};
+ghost use Rattle.evaluations.specs.Critical.{energy_over_t, dmu_dn, matrix as matrix_of, eigenvalue, third_derivative};
 ghost use Rattle.evaluations.specs.Entries.{Width, Entries, third_at};
 
 use crate::mole_numbers::{entry, ideal_gas, moved};
@@ -65,7 +65,7 @@ fn matrix(
     z2: Jet,
 ) -> SymmetricMatrix
     requires { Width w × AkRoots w (aks_of blend t.c) root }
-    ensures { Entries w (matrixOf blend 2 t.c v.c (pair_of z1.c z2.c)) result }
+    ensures { Entries w (matrix_of blend 2 t.c v.c (pair_of z1.c z2.c)) result }
 {
     let s1 = jet_gradient::sqrt(w, z1);
     let s2 = jet_gradient::sqrt(w, z2);

@@ -5,7 +5,7 @@
 ghost use Rattle.std.specs.Prelude.{◌≡◌};
 ghost use Rattle.records.specs.Answered.{number_of, answered};
 ghost use Rattle.board_spec.specs.Board.{submit_board, turn_board, look_board, quote_board};
-ghost use Rattle.board.specs.Answers.{number_of as numberSaid, ticket_of, evaluations_of, density_of, turns_of};
+ghost use Rattle.board.specs.Answers.{number_of as number_said, ticket_of, evaluations_of, density_of, turns_of};
 ghost use Rattle.writer.specs.Packed.{filed_by};
 ghost use Rattle.writer.specs.Laws.{Answers};
 
@@ -56,7 +56,7 @@ pub extern "C" fn pr_submit(
     block: &[u8],
     ticket: &mut u64,
 ) -> u64
-    ensures { (result ≡ numberSaid (submit_board board.old queue kind n block.now).answer) × (board.new ≡ (submit_board board.old queue kind n block.now).board) × (ticket.new ≡ ticket_of ticket.old (submit_board board.old queue kind n block.now).answer) }
+    ensures { (result ≡ number_said (submit_board board.old queue kind n block.now).answer) × (board.new ≡ (submit_board board.old queue kind n block.now).board) × (ticket.new ≡ ticket_of ticket.old (submit_board board.old queue kind n block.now).answer) }
 {
     let told = board::tell_submit(board, queue, kind, n, block);
     let Told::Ticket(count) = told else {
@@ -68,14 +68,14 @@ pub extern "C" fn pr_submit(
 
 #[unsafe(no_mangle)]
 pub extern "C" fn pr_turn(board: &mut [u8], record: &mut [u8]) -> u64
-    ensures { (result ≡ numberSaid (turn_board board.old «record».old).answer) × (board.new ≡ (turn_board board.old «record».old).board) × («record».new ≡ (turn_board board.old «record».old).buffer) }
+    ensures { (result ≡ number_said (turn_board board.old «record».old).answer) × (board.new ≡ (turn_board board.old «record».old).board) × («record».new ≡ (turn_board board.old «record».old).buffer) }
 {
     board::number(board::tell_turn(board, record))
 }
 
 #[unsafe(no_mangle)]
 pub extern "C" fn pr_look(board: &[u8], queue: u64, evaluations: &mut u64, density: &mut f64) -> u64
-    ensures { (result ≡ numberSaid (look_board board.now queue).answer) × (evaluations.new ≡ evaluations_of evaluations.old (look_board board.now queue).answer) × (density.new ≡ density_of density.old (look_board board.now queue).answer) }
+    ensures { (result ≡ number_said (look_board board.now queue).answer) × (evaluations.new ≡ evaluations_of evaluations.old (look_board board.now queue).answer) × (density.new ≡ density_of density.old (look_board board.now queue).answer) }
 {
     let told = board::tell_look(board, queue);
     let Told::Shown(made, latest) = told else {
@@ -88,7 +88,7 @@ pub extern "C" fn pr_look(board: &[u8], queue: u64, evaluations: &mut u64, densi
 
 #[unsafe(no_mangle)]
 pub extern "C" fn pr_quote(board: &[u8], queue: u64, kind: u64, turns: &mut u64) -> u64
-    ensures { (result ≡ numberSaid (quote_board board.now queue kind).answer) × (turns.new ≡ turns_of turns.old (quote_board board.now queue kind).answer) }
+    ensures { (result ≡ number_said (quote_board board.now queue kind).answer) × (turns.new ≡ turns_of turns.old (quote_board board.now queue kind).answer) }
 {
     let told = board::tell_quote(board, queue, kind);
     let Told::Quoted(count) = told else {

@@ -15,7 +15,7 @@ use Rattle.schedule.proofs.Tests.{span_within}
 use Rattle.board_spec.specs.Board.{Refused, Ticket, Turned, submit_board, turn_board}
 use Rattle.board_spec.specs.Run.{Bytes, zero_board, did, Reply, reply_by, buffer_of, record_of, turn_reply, reply_of}
 use Rattle.board_spec.specs.Rep.{Rep}
-use Rattle.board_spec.proofs.Sim.{simulates, zero_rep}
+use Rattle.board_spec.proofs.Whole.{simulates, zero_rep}
 use Rattle.jobs.specs.Line.{job_after, record_for, verdict_of}
 
 -- the board after `made` turns of any queue, none of which was the job's last

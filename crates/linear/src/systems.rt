@@ -1,7 +1,7 @@
 // The 2 by 2 solve and the norm of document 01's stand-ins, and the 3 by 3 solve.
 ghost use Rattle.std.specs.Prelude.{◌≡◌, ◌<◌, []};
 ghost use Rattle.std.specs.Float.{nan};
-ghost use Rattle.linear.specs.Linear.{eliminated, solve2, norm_of, pivot_row, exchanged, lower_row, lower_right, with_first, eliminated3, solve3 as solve3Of, norm_of3};
+ghost use Rattle.linear.specs.Linear.{eliminated, solve2, norm_of, pivot_row, exchanged, lower_row, lower_right, with_first, eliminated3, solve3 as solve3_of, norm_of3};
 
 use crate::types::{Solved, Solved3};
 
@@ -121,7 +121,7 @@ fn eliminate3(m: [[f64; 3]; 3], r: [f64; 3]) -> Solved3
 
 // The unknowns of m with the right side r. The rows are exchanged in a copy.
 pub fn solve3(m: [[f64; 3]; 3], r: [f64; 3]) -> Solved3
-    ensures { result ≡ solve3Of m r }
+    ensures { result ≡ solve3_of m r }
 {
     let i = pivot_row(m);
     let rows = exchange_rows(i, m);

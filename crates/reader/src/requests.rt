@@ -4,8 +4,8 @@ ghost use Rattle.float.specs.Ops.{f0};
 ghost use Rattle.eos.specs.Cubic.{blend_by, max_density};
 ghost use Rattle.block.specs.Pairs.{pairs_fit};
 ghost use Rattle.block.specs.Numbers.{reads_fractions, numbers_of};
-ghost use Rattle.block.specs.Checks.{positive as positiveOf};
-ghost use Rattle.reader.specs.View.{initial_of, branch_of, given_of, task_of, refused as refusedOf, check, of_data, last_checks, checked as checkedOf, view as view_of};
+ghost use Rattle.block.specs.Checks.{positive as positive_of};
+ghost use Rattle.reader.specs.View.{initial_of, branch_of, given_of, task_of, refused as refused_of, check, of_data, last_checks, checked as checked_of, view as view_of};
 ghost use Rattle.reader.specs.Reading.{Reads, searched_count};
 
 use crate::types::{Job, Task};
@@ -88,7 +88,7 @@ pub fn of_data(number: u64) -> bool
 
 // A task on a blend whose maximum density fits.
 fn ready(task: Task, blend: Blend) -> Task
-    ensures { result ≡ (check (positiveOf (max_density blend)) 16 (record { task = task; blend = blend })).task }
+    ensures { result ≡ (check (positive_of (max_density blend)) 16 (record { task = task; blend = blend })).task }
 {
     if !positive(eos::compute_max_density(blend)) {
         return Task::Refused(16);
@@ -140,7 +140,7 @@ fn checked(
     x: &mut [f64; 8],
 ) -> Task
     requires { (1 ≤ n) × (n ≤ 8) × (length block.now ≡ 640) × (pairs_fit n block.now ≡ true) × (tc.old ≡ replicate 8 f0) × (a.old ≡ replicate 8 f0) × (b.old ≡ replicate 8 f0) × (kappa.old ≡ replicate 8 f0) × (k_ij.old ≡ replicate 64 f0) × (x.old ≡ replicate 8 f0) }
-    ensures { Reads (checkedOf kind n (numbers_of kind n block.now)) result (blend_by (searched_count kind n) tc.new a.new b.new kappa.new k_ij.new x.new) }
+    ensures { Reads (checked_of kind n (numbers_of kind n block.now)) result (blend_by (searched_count kind n) tc.new a.new b.new kappa.new k_ij.new x.new) }
 {
     let size = n as usize;
     if !read_components(size, block, offset(block, 0), tc, a, b, kappa) {
@@ -200,7 +200,7 @@ pub fn searched_count(kind: u64, n: u64) -> usize
 }
 
 fn refused(number: u64) -> Job
-    ensures { result ≡ refusedOf number }
+    ensures { result ≡ refused_of number }
 {
     let blend = empty();
     Job {

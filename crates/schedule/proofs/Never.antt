@@ -9,23 +9,23 @@ use lib.Dec.{leb, ltb, eqb}
 use Rattle.schedule.specs.Spans.{kind_fits, count_fits}
 use Rattle.schedule.specs.Schedule.{Held, Schedule, Call, Submit, Turn, Look, Quote, refused, Verdict, accept, refuse, check, submit_verdict, turn_verdict, look_verdict, quote_verdict, turns_of, verdict, looked_at, submitted, turn_taken, acts, judged, happens}
 
-not_6 : (v : Verdict) → Type 0
-not_6 v = v ≡ refuse 6 → ⊥
+IsNot6 : (v : Verdict) → Type 0
+IsNot6 v = v ≡ refuse 6 → ⊥
 
-accept_not : not_6 accept
-unfolding not_6
+accept_not : IsNot6 accept
+unfolding IsNot6
 accept_not e = let z : ◌≡◌ {A = ℕ} 0 1 = cc in omega arith
 
-refuse_not : (number : ℕ) → (number ≡ 6 → ⊥) → not_6 (refuse number)
-unfolding not_6
+refuse_not : (number : ℕ) → (number ≡ 6 → ⊥) → IsNot6 (refuse number)
+unfolding IsNot6
 refuse_not number h e = h (cc)
 
-check_not : (ok : Bool) (number : ℕ) (next : Verdict) → (number ≡ 6 → ⊥) → not_6 next → not_6 (check ok number next)
+check_not : (ok : Bool) (number : ℕ) (next : Verdict) → (number ≡ 6 → ⊥) → IsNot6 next → IsNot6 (check ok number next)
 check_not true number next h k = k
 check_not false number next h k = refuse_not number h
 
 pub verdict_not_6 : {D : Type 0} (size : D → ℕ) (σ : Schedule D) (c : Call D) → verdict size σ c ≡ refuse 6 → ⊥
-unfolding verdict submit_verdict turn_verdict look_verdict quote_verdict not_6
+unfolding verdict submit_verdict turn_verdict look_verdict quote_verdict IsNot6
 verdict_not_6 size σ (Submit queue kind n block) =
     check_not (leb queue 3) 1 _ (omega arith)
     (check_not (kind_fits kind) 2 _ (omega arith)

@@ -1,13 +1,13 @@
 // When a job would come out, from public fields alone.
 ghost use Rattle.std.specs.Prelude.{◌≡◌, ◌≤◌};
-ghost use Rattle.schedule.specs.Schedule.{away as awayOf, turns_until};
+ghost use Rattle.schedule.specs.Schedule.{away as away_of, turns_until};
 
 use crate::spans::span_of;
 
 // The accepted turns before the next one that serves the queue.
 fn away(turn: u64, queue: u64) -> u64
     requires { (turn ≤ 3) × (queue ≤ 3) }
-    ensures { (result ≡ awayOf turn queue) × (result ≤ 3) }
+    ensures { (result ≡ away_of turn queue) × (result ≤ 3) }
 {
     if turn <= queue {
         return queue - turn;

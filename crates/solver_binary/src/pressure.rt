@@ -4,7 +4,7 @@ ghost use Rattle.float.specs.Sign.{finite_of};
 ghost use Rattle.eos.specs.Cubic.{nth, max_density};
 ghost use Rattle.solver.specs.Search.{run};
 ghost use Rattle.solver.specs.Evaluated.{evaluated};
-ghost use Rattle.solver_binary.specs.CriticalPointBinary.{start_temperature, start_unknowns, answer_p, scaled_p, limited, reduced_p, step_p, solved_p as solvedPOf, converged_p, search_p, critical_point_binary_p};
+ghost use Rattle.solver_binary.specs.CriticalPointBinary.{start_temperature, start_unknowns, answer_p, scaled_p, limited, reduced_p, step_p, solved_p as solved_p_of, converged_p, search_p, critical_point_binary_p};
 ghost use Rattle.solver_binary.specs.Rounds.{finite3, row_finite, finite12, stepped_p, round_p};
 
 use crate::temperature::start_densities;
@@ -136,7 +136,7 @@ fn has_converged(y: PressureCriticality) -> bool
 }
 
 fn solved_p(y: PressureCriticality) -> Solved3
-    ensures { result ≡ solvedPOf y }
+    ensures { result ≡ solved_p_of y }
 {
     let l = y.l;
     let c2 = y.c2;

@@ -4,7 +4,7 @@ ghost use Rattle.float.specs.Sign.{finite_of};
 ghost use Rattle.eos.specs.Cubic.{max_density};
 ghost use Rattle.solver.specs.Search.{run};
 ghost use Rattle.solver.specs.Evaluated.{evaluated};
-ghost use Rattle.solver_critical.specs.CriticalPoint.{critical_answer, floored, reduced, reduced_step, newton_step, solved as solvedOf, converged, trial_temperatures, trial_temperature, start_density, critical_point_hkm, trials, critical_point};
+ghost use Rattle.solver_critical.specs.CriticalPoint.{critical_answer, floored, reduced, reduced_step, newton_step, solved as solved_of, converged, trial_temperatures, trial_temperature, start_density, critical_point_hkm, trials, critical_point};
 ghost use Rattle.solver_critical.specs.Rounds.{both_finite, finite6, stepped_round, critical_round};
 
 use crate::types::{CriticalOutcome, Point, Start};
@@ -96,7 +96,7 @@ pub fn has_converged(y: Criticality) -> bool
 }
 
 pub fn solved(y: Criticality) -> Solved
-    ensures { result ≡ solvedOf y }
+    ensures { result ≡ solved_of y }
 {
     let jacobian = [[y.dl_d0, y.dl_d1], [y.dc2_d0, y.dc2_d1]];
     linear::solve(jacobian, [y.l, y.c2])

@@ -4,7 +4,7 @@ ghost use Rattle.float.specs.Sign.{finite_of};
 ghost use Rattle.eos.specs.Cubic.{max_density};
 ghost use Rattle.solver.specs.Search.{run};
 ghost use Rattle.solver.specs.Evaluated.{evaluated};
-ghost use Rattle.solver_critical.specs.Spinodal.{spinodal_answer, both_answer, spinodal_start, liquid_start, reduced_delta, stability_step, calculate_spinodal, after_vapor, after_critical, spinodal as spinodalTree};
+ghost use Rattle.solver_critical.specs.Spinodal.{spinodal_answer, both_answer, spinodal_start, liquid_start, reduced_delta, stability_step, calculate_spinodal, after_vapor, after_critical, spinodal as spinodal_tree};
 ghost use Rattle.solver_critical.specs.Rounds.{stability_round};
 
 use crate::critical::{both_finite, critical_search, floor};
@@ -174,7 +174,7 @@ fn after_critical(blend: Blend, maxdensity: f64, temperature: f64, critical: Val
 }
 
 fn spinodal_search(blend: Blend, maxdensity: f64, temperature: f64) -> Ran
-    ensures { result ≡ run finite_of (evaluated blend) 0 (spinodalTree maxdensity temperature) }
+    ensures { result ≡ run finite_of (evaluated blend) 0 (spinodal_tree maxdensity temperature) }
 {
     let s = critical_search(blend, maxdensity, Start::None, Start::None);
     let evaluations = s.evaluations;
@@ -197,7 +197,7 @@ fn spinodal_search(blend: Blend, maxdensity: f64, temperature: f64) -> Ran
 
 // Kind 6. Hands out the vapour's and the liquid's density.
 pub fn spinodal(blend: Blend, temperature: f64) -> Ran
-    ensures { result ≡ run finite_of (evaluated blend) 0 (spinodalTree (max_density blend) temperature) }
+    ensures { result ≡ run finite_of (evaluated blend) 0 (spinodal_tree (max_density blend) temperature) }
 {
     spinodal_search(blend, eos::compute_max_density(blend), temperature)
 }

@@ -11,7 +11,6 @@ use Rattle.solver.specs.declared.types.Answer.TheVariants.{Found, Refused}
 use Rattle.solver.specs.Search.{Evaluator, Search, bind, settle, next_of, criticality}
 use Rattle.solver.proofs.Steps.{moved, next_bind, settled}
 use Rattle.solver_critical.specs.declared.types.Start.{Start}
-use Rattle.solver_critical.specs.declared.types.Start.TheVariants as Start
 use Rattle.solver_critical.specs.declared.types.CriticalOutcome.{CriticalOutcome}
 use Rattle.solver_critical.specs.declared.types.CriticalOutcome.TheVariants.{End, Next}
 use Rattle.solver_critical.specs.CriticalPoint.{or_else, trial_temperatures, trial_temperature, start_density, hkm_from, critical_point_hkm, trials, from_temperature, critical_point}

@@ -13,7 +13,6 @@ use Rattle.solver.specs.Stored.{status_fits}
 use Rattle.solver.specs.Search.{Evaluator}
 use Rattle.solver.proofs.Ranges.{Fits, below, fits, ended_fits}
 use Rattle.solver_critical.specs.declared.types.Start.{Start}
-use Rattle.solver_critical.specs.declared.types.Start.TheVariants as Start
 use Rattle.solver_critical.specs.declared.types.CriticalOutcome.{CriticalOutcome}
 use Rattle.solver_critical.specs.declared.types.CriticalOutcome.TheVariants as Round
 use Rattle.solver_critical.specs.declared.types.StabilityOutcome.{StabilityOutcome}

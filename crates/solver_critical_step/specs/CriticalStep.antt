@@ -4,7 +4,6 @@ use Rattle.solver.specs.declared.types.Refusal.TheVariants.{NotConverged}
 use Rattle.solver.specs.declared.types.Answer.TheVariants.{Found, Refused}
 use Rattle.solver.specs.Search.{Evaluator, Search, done, bind, criticality}
 use Rattle.solver_critical.specs.declared.types.Start.{Start}
-use Rattle.solver_critical.specs.declared.types.Start.TheVariants as Start
 use Rattle.solver_critical.specs.declared.types.CriticalOutcome.{CriticalOutcome}
 use Rattle.solver_critical.specs.declared.types.CriticalOutcome.TheVariants.{End, Next}
 use Rattle.solver_critical.specs.CriticalPoint.{or_else, trial_temperatures, trial_temperature, hkm_from, trials}

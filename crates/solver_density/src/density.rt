@@ -4,7 +4,7 @@ ghost use Rattle.float.specs.Sign.{finite_of};
 ghost use Rattle.eos.specs.Cubic.{max_density};
 ghost use Rattle.solver.specs.Search.{run};
 ghost use Rattle.solver.specs.Evaluated.{evaluated};
-ghost use Rattle.solver_density.specs.Density.{density as densityAnswer, start_of, conditions_of, detour_of, converged, corrected, newton as newtonOf, beside_spinodal, after_nearest, after_both, vapor as vaporTree, detour as detourTree, unstable as unstableTree, density_from, density_search, density_iteration};
+ghost use Rattle.solver_density.specs.Density.{density as density_answer, start_of, conditions_of, detour_of, converged, corrected, newton as newton_of, beside_spinodal, after_nearest, after_both, vapor as vapor_tree, detour as detour_tree, unstable as unstable_tree, density_from, density_search, density_iteration};
 ghost use Rattle.solver_density.specs.Rounds.{newton_round, slope_round};
 
 use crate::spinodal::{all_finite, branch_search, cap, spinodal_search};
@@ -15,7 +15,7 @@ use solver::{Answer, DensityInitialization, Ran, Refusal, Values};
 
 // a density as an answer
 pub fn found_density(rho: f64) -> Answer
-    ensures { result ≡ densityAnswer rho }
+    ensures { result ≡ density_answer rho }
 {
     let found = Values {
         first: rho,
@@ -61,7 +61,7 @@ pub fn correct(c: Conditions) -> f64
 
 // the Newton step with its caps
 fn newton(c: Conditions, rho: f64, error: f64, dpdrho: f64) -> f64
-    ensures { result ≡ newtonOf c rho error dpdrho }
+    ensures { result ≡ newton_of c rho error dpdrho }
 {
     let delta_rho = cap(0.075 * c.maxdensity, -error / dpdrho);
     rho + float::max(delta_rho, -0.95 * rho)
@@ -194,7 +194,7 @@ pub fn after_both(c: Conditions, way: Both, liquid: f64, v: Values) -> f64
 }
 
 fn by_nearest(blend: Blend, c: Conditions, way: Nearest) -> Ran
-    ensures { result ≡ run finite_of (evaluated blend) 0 (detourTree c (Detour.ByNearest way)) }
+    ensures { result ≡ run finite_of (evaluated blend) 0 (detour_tree c (Detour.ByNearest way)) }
 {
     let s = spinodal_search(blend, c.maxdensity, c.temperature, c.start);
     let evaluations = s.evaluations;
@@ -213,7 +213,7 @@ fn by_nearest(blend: Blend, c: Conditions, way: Nearest) -> Ran
 
 // the vapour's spinodal, after the liquid's
 fn by_vapor(blend: Blend, c: Conditions, way: Both, liquid: f64) -> Ran
-    ensures { result ≡ run finite_of (evaluated blend) 0 (vaporTree c way liquid) }
+    ensures { result ≡ run finite_of (evaluated blend) 0 (vapor_tree c way liquid) }
 {
     let s = branch_search(blend, c.maxdensity, c.temperature, Branch::Vapor);
     let evaluations = s.evaluations;
@@ -231,7 +231,7 @@ fn by_vapor(blend: Blend, c: Conditions, way: Both, liquid: f64) -> Ran
 }
 
 fn by_both(blend: Blend, c: Conditions, way: Both) -> Ran
-    ensures { result ≡ run finite_of (evaluated blend) 0 (detourTree c (Detour.ByBoth way)) }
+    ensures { result ≡ run finite_of (evaluated blend) 0 (detour_tree c (Detour.ByBoth way)) }
 {
     let s = branch_search(blend, c.maxdensity, c.temperature, Branch::Liquid);
     let evaluations = s.evaluations;
@@ -253,7 +253,7 @@ fn by_both(blend: Blend, c: Conditions, way: Both) -> Ran
 }
 
 fn detour(blend: Blend, c: Conditions, way: Detour) -> Ran
-    ensures { result ≡ run finite_of (evaluated blend) 0 (detourTree c way) }
+    ensures { result ≡ run finite_of (evaluated blend) 0 (detour_tree c way) }
 {
     match way {
         Detour::ByNearest(nearest) => by_nearest(blend, c, nearest),
@@ -263,7 +263,7 @@ fn detour(blend: Blend, c: Conditions, way: Detour) -> Ran
 
 // correction for instable region
 fn unstable(blend: Blend, c: Conditions, rho: f64, error: f64) -> Ran
-    ensures { result ≡ run finite_of (evaluated blend) 0 (unstableTree c rho error) }
+    ensures { result ≡ run finite_of (evaluated blend) 0 (unstable_tree c rho error) }
 {
     let y = evaluations::p_dpdrho_d2pdrho2(blend, c.temperature, rho);
     if !all_finite(y) {

@@ -4,7 +4,7 @@ ghost use Rattle.float.specs.Sign.{finite_of};
 ghost use Rattle.eos.specs.Cubic.{max_density};
 ghost use Rattle.solver.specs.Search.{run};
 ghost use Rattle.solver.specs.Evaluated.{evaluated};
-ghost use Rattle.solver_density.specs.Stable.{lower_potential, potentials as potentialsTree, stable_phase, density_iteration_stable};
+ghost use Rattle.solver_density.specs.Stable.{lower_potential, potentials as potentials_tree, stable_phase, density_iteration_stable};
 
 use crate::density::{conditions, density_search};
 use eos::Blend;
@@ -21,7 +21,7 @@ pub fn lower_potential(liquid: Values, vapor: Values, of_liquid: f64, of_vapor: 
 }
 
 fn potentials(blend: Blend, temperature: f64, liquid: Values, vapor: Values) -> Ran
-    ensures { result ≡ run finite_of (evaluated blend) 0 (potentialsTree temperature liquid vapor) }
+    ensures { result ≡ run finite_of (evaluated blend) 0 (potentials_tree temperature liquid vapor) }
 {
     let of_liquid = evaluations::chemical_potential(blend, temperature, liquid.first);
     if !float::is_finite(of_liquid) {

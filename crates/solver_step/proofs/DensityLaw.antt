@@ -8,7 +8,6 @@ use Rattle.float.specs.Sign.{finite_of}
 use Rattle.evaluations.specs.declared.types.Pressure.{Pressure}
 use Rattle.solver.specs.declared.types.Refusal.TheVariants.{StartNotPositive, NotFinite}
 use Rattle.solver.specs.declared.types.Answer.{Answer}
-use Rattle.solver.specs.declared.types.Answer.TheVariants as Answer
 use Rattle.solver.specs.Search.{Evaluator, Search, done, refuse, bind, on_found, and_then, settle, next_of, slope, curvature}
 use Rattle.solver.proofs.Steps.{settle_bind, moved, next_bind, settled}
 use Rattle.solver_density.specs.declared.types.Branch.TheVariants.{Liquid, Vapor}

@@ -9,7 +9,6 @@ use Rattle.float.specs.Sign.{finite_of}
 use Rattle.evaluations.specs.declared.types.Pressure.{Pressure}
 use Rattle.solver.specs.declared.types.Refusal.TheVariants.{StartNotPositive, NotFinite}
 use Rattle.solver.specs.declared.types.Answer.{Answer}
-use Rattle.solver.specs.declared.types.Answer.TheVariants as Answer
 use Rattle.solver.specs.Answer.{status_of}
 use Rattle.solver.specs.Stored.{status_fits}
 use Rattle.solver.specs.Search.{Evaluator}

@@ -6,7 +6,6 @@ use Rattle.evaluations.specs.declared.types.Pressure.{Pressure}
 use Rattle.solver.specs.declared.types.Values.{Values}
 use Rattle.solver.specs.declared.types.Refusal.TheVariants.{StartNotPositive, NotConverged, NotFinite}
 use Rattle.solver.specs.declared.types.Answer.{Answer}
-use Rattle.solver.specs.declared.types.Answer.TheVariants as Answer
 use Rattle.solver.specs.Search.{Evaluator, Search, done, and_then, slope, curvature}
 use Rattle.solver_density.specs.declared.types.Branch.TheVariants.{Liquid, Vapor}
 use Rattle.solver_density.specs.declared.types.Conditions.{Conditions}

@@ -1,6 +1,6 @@
 // The places of kinds 1 to 4 as numbers and back.
 ghost use Rattle.std.specs.Prelude.{◌≡◌};
-ghost use Rattle.solver_step.specs.Stored.{nearest_number, nearest_by, both_number, both_by, spot_numbers, spinodal_numbers, spinodal_spot_by, spinodal_place_by, phase_by, density_spot_numbers, density_spot_by, density_numbers, density_place_by, staged as stagedNumbers, potential_numbers, stable_numbers, stable_spot_by, stable_place_by};
+ghost use Rattle.solver_step.specs.Stored.{nearest_number, nearest_by, both_number, both_by, spot_numbers, spinodal_numbers, spinodal_spot_by, spinodal_place_by, phase_by, density_spot_numbers, density_spot_by, density_numbers, density_place_by, staged as staged_numbers, potential_numbers, stable_numbers, stable_spot_by, stable_place_by};
 
 use crate::density::phase_answer;
 use crate::types::{
@@ -194,7 +194,7 @@ pub fn density_place_by(n: Numbers) -> DensityPlace
 }
 
 fn staged(stage: u64, status: u64, z: f64, n: Numbers) -> Numbers
-    ensures { result ≡ stagedNumbers stage status z n }
+    ensures { result ≡ staged_numbers stage status z n }
 {
     let c = n.counters;
     let v = n.values;

@@ -1,11 +1,11 @@
 // A number's digits, in ASCII.
 ghost use Rattle.std.specs.Prelude.{◌≡◌, ◌+◌, ◌≤◌, ◌<◌, length};
 ghost use Rattle.buf.specs.Bytes.{splice};
-ghost use Rattle.text.specs.Digits.{glyph as glyphOf, digits, width as width_of};
+ghost use Rattle.text.specs.Digits.{glyph as glyph_of, digits, width as width_of};
 
 fn glyph(d: u64) -> u8
     requires { d < 16 }
-    ensures { result ≡ glyphOf d }
+    ensures { result ≡ glyph_of d }
 {
     if d < 10 {
         return 48 + d as u8;
