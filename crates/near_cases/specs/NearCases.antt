@@ -94,7 +94,7 @@ pub record BoardCases : Type 0 where
   pub quote_behind_seven : (block : Bytes) → length block ≡ 640
       → answers (submits 7 1 1 block ++ (Quote 0 3 ∷ [])) ≡ ticketed 0 ∷ ticketed 1 ∷ ticketed 2 ∷ ticketed 3 ∷ ticketed 4 ∷ ticketed 5 ∷ ticketed 6 ∷ quoting 86945 ∷ []
   pub quote_behind_eight_4 : (block : Bytes) → length block ≡ 640
-      → answers (submits 8 1 1 block ++ (Quote 0 3 ∷ [])) ≡ ticketed 0 ∷ ticketed 1 ∷ ticketed 2 ∷ ticketed 3 ∷ ticketed 4 ∷ ticketed 5 ∷ ticketed 6 ∷ ticketed 7 ∷ refusal 4 ∷ []
+      → answers (submits 8 1 1 block ++ (Quote 0 3 ∷ [])) ≡ (ticketed 0 ∷ ticketed 1 ∷ ticketed 2 ∷ ticketed 3 ∷ ticketed 4 ∷ ticketed 5 ∷ ticketed 6 ∷ ticketed 7 ∷ []) ++ (refusal 4 ∷ [])
 
 -- "2 passes kind 7; 3 is also given for kind 7 with N other than 2"; "2 passes 8 and 9; 3 is given for them unless N is 2". Whatever the block holds.
 pub record TwoCases (kind : ℕ) : Type 0 where
