@@ -1,10 +1,10 @@
 // Calls and their public answers as bytes: the format of a whole run. specs/Calls.antt says what it is.
 #![tactic(auto)]
 
-mod reader;
+mod reading;
 mod types;
 mod writer;
 
-pub use crate::reader::call_at;
+pub use crate::reading::call_at;
 pub use crate::types::{Call, Found};
 pub use crate::writer::put_answer;

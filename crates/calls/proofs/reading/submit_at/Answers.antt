@@ -1,7 +1,7 @@
--- `calls::reader::submit_at`.
+-- `calls::reading::submit_at`.
 use Rattle.calls.proofs.ReadLaws.{submit_cut, submit_read}
 use native.Mathlib.Omega.{arith}
-use Rattle.calls.proofs.reader.submit_at.Goals as goal
+use Rattle.calls.proofs.reading.submit_at.Goals as goal
 
 pub returns-then-calls-from : goal.returns-then-calls-from
 returns-then-calls-from c = submit_cut _ _ _ c.get_u64-length.ensures (omega arith) c.if-calls-from.true

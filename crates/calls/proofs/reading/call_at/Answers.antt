@@ -1,7 +1,7 @@
--- `calls::reader::call_at`.
+-- `calls::reading::call_at`.
 use Rattle.calls.proofs.ReadLaws.{call_none, call_submit, call_turn, call_look, call_other}
 use native.Mathlib.Omega.{arith}
-use Rattle.calls.proofs.reader.call_at.Goals as goal
+use Rattle.calls.proofs.reading.call_at.Goals as goal
 
 pub returns-then-calls-lt40 : goal.returns-then-calls-lt40
 returns-then-calls-lt40 c = call_none _ _ (omega arith)
