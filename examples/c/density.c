@@ -1,6 +1,5 @@
 /*
- * The liquid density of a blend of propane and butane, drawn from a fresh board: block, quote, submit, turns, look,
- * record, which comes with the turn that was quoted.
+ * The liquid density of a blend of propane and butane, drawn from a fresh board: block, submit, turns, look, record.
  * Then two calls that are refused. Exit status 0 only if every call answered as peng_robinson_board.h says.
  */
 #include "peng_robinson_board.h"
@@ -13,6 +12,7 @@
 #define MOL_PER_CUBIC_METRE (1e30 / 6.02214076e23)
 
 #define LOOK_AFTER 13
+#define LAST_TURN ((PR_SPAN_DENSITY - 1) * PR_QUEUES + 1)
 
 /* Numbers in records are little-endian on every machine, so they are put together byte by byte. */
 static uint64_t u64_at(const uint8_t *bytes)
@@ -63,12 +63,6 @@ int main(void)
     if (answer != 0)
         return failed("pr_write_block", answer);
 
-    uint64_t last_turn;
-    answer = pr_quote(board, sizeof board, 0, PR_KIND_DENSITY, &last_turn);
-    if (answer != 0)
-        return failed("pr_quote", answer);
-    printf("quoted for queue 0: the record will come with turn %" PRIu64 "\n", last_turn);
-
     uint64_t ticket;
     answer = pr_submit(board, sizeof board, 0, PR_KIND_DENSITY, 2, block, sizeof block, &ticket);
     if (answer != 0)
@@ -76,11 +70,11 @@ int main(void)
     printf("submitted to queue 0: ticket %" PRIu64 "\n", ticket);
 
     uint8_t record[PR_RECORD_BYTES];
-    uint64_t turns = 0;
+    int turns = 0;
     do {
         answer = pr_turn(board, sizeof board, record, sizeof record);
         turns++;
-        if (answer > 1 || (answer == 1) != (turns == last_turn))
+        if (answer > 1 || (answer == 1) != (turns == LAST_TURN))
             return failed("pr_turn", answer);
         if (turns == LOOK_AFTER) {
             uint64_t evaluations;
@@ -88,13 +82,13 @@ int main(void)
             uint64_t looked = pr_look(board, sizeof board, 0, &evaluations, &density);
             if (looked != 0)
                 return failed("pr_look", looked);
-            printf("look after %" PRIu64 " turns: evaluations %" PRIu64 ", density %.3f mol/m^3, bits %016" PRIX64 "\n",
+            printf("look after %d turns: evaluations %" PRIu64 ", density %.3f mol/m^3, bits %016" PRIX64 "\n",
                    turns, evaluations, density * MOL_PER_CUBIC_METRE, bits_of(density));
         }
     } while (answer == 0);
 
     double density = float_at(record + PR_RECORD_VALUES);
-    printf("record after %" PRIu64 " turns:\n", turns);
+    printf("record after %d turns:\n", turns);
     printf("  ticket %" PRIu64 "\n", u64_at(record + PR_RECORD_TICKET));
     printf("  kind %u\n", (unsigned)record[PR_RECORD_KIND]);
     printf("  queue %u\n", (unsigned)record[PR_RECORD_QUEUE]);

@@ -176,12 +176,13 @@ impl Schedule {
     }
 }
 
-#[test]
-fn random_calls_are_answered_as_the_schedule_says() {
+/// Random calls on the board and on the schedule, quotes too where they are asked for. How many records came, submits were
+/// refused by 4 and quotes were given.
+fn random_calls(with_quotes: bool) -> (u64, u64, u64) {
     let (mut board, mut schedule, mut random) = (Board::new(), Schedule::default(), Random::new(1));
     let (mut records, mut full, mut quotes) = (0, 0, 0);
     for _ in 0..60_000 {
-        match random.below(16) {
+        match random.below(if with_quotes { 16 } else { 15 }) {
             0 => {
                 // mostly short kinds and good arguments
                 let kind = [3, 4, 3, 4, 3, 5, 6, 7, 8, 9, 0, 10, 1 << 32][random.below(13) as usize];
@@ -207,7 +208,7 @@ fn random_calls_are_answered_as_the_schedule_says() {
                 let expected = schedule.turn(63).map(|out| out.is_some());
                 assert_eq!(board.turn_into(&mut [0; 63]), expected.map_err(Refusal::from));
             }
-            3 => {
+            3 if with_quotes => {
                 let (queue, kind) = (random.below(5), random.below(11));
                 let expected = schedule.quote(queue, kind);
                 assert_eq!(board.quote(queue, kind), expected.map_err(Refusal::from));
@@ -224,7 +225,19 @@ fn random_calls_are_answered_as_the_schedule_says() {
             }
         }
     }
-    // the list came to all of them
+    (records, full, quotes)
+}
+
+#[test]
+fn random_calls_are_answered_as_the_schedule_says() {
+    let (records, full, _) = random_calls(false);
+    // the list came to both
+    assert!(records > 100 && full > 10, "{records} records, {full} refused by 4");
+}
+
+#[test]
+fn random_calls_with_quotes_are_answered_as_the_schedule_says() {
+    let (records, full, quotes) = random_calls(true);
     assert!(records > 100 && full > 10, "{records} records, {full} refused by 4");
     assert!(quotes > 1_000, "{quotes} quoted");
 }

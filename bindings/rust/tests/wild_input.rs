@@ -200,7 +200,7 @@ fn damaged_boards() {
             }
             // a board that passes 6 passes it after every call, and its quotes hold
             Ok(_) => {
-                let (queue, request) = (random.below(4), &spinodal);
+                let (queue, request) = (taken / 20 % 4, &spinodal);
                 match board.quote(queue, request.kind()) {
                     Ok(turns) if taken % 20 == 0 => assert_eq!(turns_taken(&board, queue, request), turns),
                     Ok(_) | Err(Refusal::QueueFull) => (),

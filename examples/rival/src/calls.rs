@@ -1,4 +1,4 @@
-//! The list of calls that is made for either mix: submits to all four queues, refused calls, turns, looks and quotes.
+//! The list of calls that is made for either mix: submits to all four queues, refused calls, turns and looks.
 //! Its public fields are the same for every mix.
 use peng_robinson_board::{Kind, Phase, Refusal, Request, BLOCK_BYTES, QUEUES, RECORD_BYTES};
 
@@ -75,15 +75,11 @@ pub fn calls(mix: &Mix, percent: bool) -> Result<Vec<Call>, Refusal> {
         },
         Call::Look { queue: 4 },
         Call::Look { queue: 3 },
-        Call::Quote { queue: 4, kind: 4 },
-        Call::Quote { queue: 1, kind: 0 },
     ]);
 
     // after 34 turns queues 0 and 1 have had nine, of which the catalogue mix's searches needed eight
     calls.extend(turns(34));
     calls.extend((0..QUEUES).map(|queue| Call::Look { queue }));
-    // queue 0 still holds eight; in the others some searches have ended by now and some have not
-    calls.extend((0..QUEUES).map(|queue| Call::Quote { queue, kind: 4 }));
     // until the longest job, that of queue 3, is out
     calls.extend(turns(QUEUES * Kind::StableDensity.span() - 34));
     calls.extend((0..QUEUES).map(|queue| Call::Look { queue }));
