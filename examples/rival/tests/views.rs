@@ -115,7 +115,10 @@ fn quotes_are_by_the_published_schedule() {
     // before the turns until the longest job is out and the looks after these
     let at = list.len() - (4 * 6204 - 34) - 4;
     let asked = [(4, 4), (1, 0), (0, 4), (1, 4), (2, 4), (3, 4)];
-    list.splice(at..at, asked.map(|(queue, kind)| Call::Quote { queue, kind }));
+    list.splice(
+        at..at,
+        asked.map(|(queue, kind)| Call::Quote { queue, kind }),
+    );
     let (view, _) = run(&list);
     let seen = &view[at..at + asked.len()];
     assert_eq!(seen[..3], [1, 2, 4].map(Public::Refused));
