@@ -20,9 +20,7 @@ fn series(s: f64) -> f64
 {
     let z = s * s;
     let mut h = odd_recip(10);
-    let mut k = 10u64;
-    while 0 < k {
-        k -= 1;
+    for k in (0..10).rev() {
         h = h * z + odd_recip(k);
     }
     h
