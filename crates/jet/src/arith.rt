@@ -54,10 +54,8 @@ pub fn add(a: Jet, b: Jet) -> Jet
     ensures { result.c ≡ sum_of a.c b.c }
 {
     let mut c = [0.0; 32];
-    let mut m: usize = 0;
-    while m < 32 {
+    for m in 0..32 {
         c[m] = a.c[m] + b.c[m];
-        m += 1;
     }
     Jet { c }
 }
@@ -66,10 +64,8 @@ pub fn sub(a: Jet, b: Jet) -> Jet
     ensures { result.c ≡ difference_of a.c b.c }
 {
     let mut c = [0.0; 32];
-    let mut m: usize = 0;
-    while m < 32 {
+    for m in 0..32 {
         c[m] = a.c[m] - b.c[m];
-        m += 1;
     }
     Jet { c }
 }
@@ -78,10 +74,8 @@ pub fn neg(a: Jet) -> Jet
     ensures { result.c ≡ negation_of a.c }
 {
     let mut c = [0.0; 32];
-    let mut m: usize = 0;
-    while m < 32 {
+    for m in 0..32 {
         c[m] = -a.c[m];
-        m += 1;
     }
     Jet { c }
 }
@@ -90,7 +84,7 @@ pub fn neg(a: Jet) -> Jet
 pub fn at_most(n: usize) -> usize
     ensures { result ≡ min n positions }
 {
-    if n < 32 { n } else { 32 }
+    n.min(32)
 }
 
 // The coefficients of a product at positions below `end`.
@@ -99,10 +93,8 @@ fn product(end: usize, x: &[f64; 32], y: &[f64; 32]) -> Jet
     ensures { result.c ≡ cut end (product_of x.now y.now) }
 {
     let mut c = [0.0; 32];
-    let mut m: usize = 0;
-    while m < end {
+    for m in 0..end {
         c[m] = plus(x[0] * y[m], x, y, m);
-        m += 1;
     }
     Jet { c }
 }
@@ -132,10 +124,8 @@ fn quotient(end: usize, x: &[f64; 32], y: &[f64; 32]) -> Jet
     ensures { result.c ≡ cut end (quotient_of x.now y.now) }
 {
     let mut q = [0.0; 32];
-    let mut m: usize = 0;
-    while m < end {
+    for m in 0..end {
         q[m] = minus(x[m], &q, y, m, 0) / y[0];
-        m += 1;
     }
     Jet { c: q }
 }
@@ -207,10 +197,8 @@ pub fn derivative(k: usize, a: Jet) -> Jet
 {
     let x = a.c;
     let mut c = [0.0; 32];
-    let mut m: usize = 0;
-    while m < 32 {
+    for m in 0..32 {
         c[m] = derivative_at(k, &x, m);
-        m += 1;
     }
     Jet { c }
 }

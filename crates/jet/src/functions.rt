@@ -20,10 +20,8 @@ fn root(end: usize, x: &[f64; 32]) -> Jet
     }
     r[0] = float::sqrt(x[0]);
     let d = 2.0 * r[0];
-    let mut m: usize = 1;
-    while m < end {
+    for m in 1..end {
         r[m] = minus(x[m], &r, &r, m, next(0, m)) / d;
-        m += 1;
     }
     Jet { c: r }
 }
@@ -56,13 +54,11 @@ fn logarithm(end: usize, x: &[f64; 32]) -> Jet
         return Jet { c: l };
     }
     l[0] = float::ln(x[0]);
-    let mut m: usize = 1;
-    while m < end {
+    for m in 1..end {
         let w = weight(m);
         let v = minus(w * x[m], &wl, x, m, next(0, m)) / (w * x[0]);
         l[m] = v;
         wl[m] = w * v;
-        m += 1;
     }
     Jet { c: l }
 }

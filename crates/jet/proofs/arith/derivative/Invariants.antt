@@ -1,12 +1,8 @@
 -- `jet::arith::derivative`.
 use mathlib.Core.Path.{◌≡◌}
-use Prim.Native.Nat.{◌-◌, ◌≤◌}
 use Rattle.jet.specs.Positions.{positions}
 use Rattle.jet.specs.Coefficients.{build, cut, derivative_at}
 use Rattle.jet.proofs.arith.derivative.Given as goal
 
 abbrev pub invariant-loop-m : goal.invariant-loop-m
-invariant-loop-m l = (l.m ≤ positions) × (l.c ≡ cut l.m (build (derivative_at l.k l.x) positions))
-
-abbrev pub decreases-loop-m : goal.decreases-loop-m
-decreases-loop-m l = positions - l.m
+invariant-loop-m l = l.c ≡ cut l.m (build (derivative_at l.k l.x) positions)

@@ -5,12 +5,12 @@ use Rattle.jet.proofs.Build.{fill_start, fill_turn, fill_end}
 use Rattle.jet.proofs.arith.neg.Goals as goal
 
 pub loop-m-init : goal.loop-m-init
-loop-m-init c = (omega arith, fill_start _)
+loop-m-init c = fill_start _
 
 pub loop-m-preserved : goal.loop-m-preserved
 loop-m-preserved c =
-    (omega arith, fill_turn (negation_at c.args.a.c) (λ m c d h. refl) c.loop-m.m _ c.loop-m.c (omega arith) c.loop-m.invariant.1 refl)
+    fill_turn (negation_at c.args.a.c) (λ m c d h. refl) c.loop-m.m _ c.loop-m.c (omega arith) c.loop-m.invariant refl
 
 pub returns : goal.returns
 unfolding negation_of
-returns c = fill_end (negation_at c.args.a.c) c.loop-m.m _ (omega arith) c.loop-m.invariant.1
+returns c = fill_end (negation_at c.args.a.c) c.loop-m.m _ (omega arith) c.loop-m.invariant

@@ -8,7 +8,7 @@ use borrow.Author.Rules.{rules}
 use Rattle.jet.proofs.arith.quotient.Goals as goal
 
 pub loop-m-init : goal.loop-m-init
-loop-m-init c = (omega arith, fill_start _)
+loop-m-init c = fill_start _
 
 pub minus-requires : goal.minus-requires
 minus-requires c = (search rules, least _)
@@ -17,9 +17,9 @@ pub loop-m-preserved : goal.loop-m-preserved
 loop-m-preserved c =
     let x = c.args.x.now in
     let y = c.args.y.now in
-    (omega arith, fill_turn (quotient_at x y) (quotient_local x y) c.loop-m.m _ c.loop-m.q (omega arith) c.loop-m.invariant.1 (quotient_row x y c.loop-m.q c.loop-m.m _ c.minus.ensures))
+    fill_turn (quotient_at x y) (quotient_local x y) c.loop-m.m _ c.loop-m.q (omega arith) c.loop-m.invariant (quotient_row x y c.loop-m.q c.loop-m.m _ c.minus.ensures)
 
 pub returns : goal.returns
 unfolding quotient_of
 returns c =
-    filled (quotient_at c.args.x.now c.args.y.now) c.args.end c.loop-m.m _ (omega arith) c.loop-m.invariant.1
+    filled (quotient_at c.args.x.now c.args.y.now) c.args.end c.loop-m.m _ (omega arith) c.loop-m.invariant
