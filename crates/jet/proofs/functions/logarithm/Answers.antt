@@ -19,8 +19,6 @@ unfolding logarithm_at
 loop-m-init c =
     let x = c.args.x.now in
     record {
-      some = omega arith;
-      under = omega arith;
       filled = fill_turn (logarithm_at x) (logarithm_local x) 0 c.ln.result _ (omega arith) (fill_start _) c.ln.ensures;
       sized = refl;
       weighted = λ p h k. absurd (omega arith);
@@ -41,9 +39,7 @@ loop-m-preserved c =
     let weight = c.weight-w.ensures in
     let long : length l.l ≡ positions = ap length i.filled ∙ length_filled (logarithm_at x) l.m (omega arith) in
     record {
-      some = omega arith;
-      under = omega arith;
-      filled = fill_turn (logarithm_at x) (logarithm_local x) l.m _ l.l (omega arith) i.filled (logarithm_row x l.l l.wl l.m _ _ _ i.some c.next.ensures i.weighted weight c.minus.ensures);
+      filled = fill_turn (logarithm_at x) (logarithm_local x) l.m _ l.l (omega arith) i.filled (logarithm_row x l.l l.wl l.m _ _ _ (omega arith) c.next.ensures i.weighted weight c.minus.ensures);
       sized = length-set l.wl l.m _ ∙ i.sized;
       weighted = weighted_turn l.l l.wl l.m _ _ (omega arith) (omega arith) weight i.weighted;
     }
@@ -51,4 +47,4 @@ loop-m-preserved c =
 pub returns : goal.returns
 unfolding logarithm_of
 returns c =
-    filled (logarithm_at c.args.x.now) c.args.end c.loop-m.m _ (omega (arith, c.loop-m.invariant.under)) c.loop-m.invariant.filled
+    filled (logarithm_at c.args.x.now) c.args.end c.loop-m.m _ (omega arith) c.loop-m.invariant.filled

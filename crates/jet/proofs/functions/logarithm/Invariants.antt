@@ -1,6 +1,6 @@
 -- `jet::functions::logarithm`.
 use mathlib.Core.Path.{◌≡◌}
-use Prim.Native.Nat.{ℕ, ◌-◌, ◌≤◌, ◌<◌}
+use Prim.Native.Nat.{ℕ, ◌≤◌, ◌<◌}
 use mathlib.Core.List.{List}
 use lib.ListN.{length}
 use lib.Ieee.{Float}
@@ -9,15 +9,10 @@ use Rattle.jet.specs.Positions.{positions, weight_of}
 use Rattle.jet.specs.Coefficients.{at, build, cut, logarithm_at}
 use Rattle.jet.proofs.functions.logarithm.Given as goal
 
-pub record Inv (x : List Float) (end : ℕ) (l wl : List Float) (m : ℕ) : Type 0 where
-  pub some : 1 ≤ m
-  pub under : m ≤ end
+pub record Inv (x : List Float) (l wl : List Float) (m : ℕ) : Type 0 where
   pub filled : l ≡ cut m (build (logarithm_at x) positions)
   pub sized : length wl ≡ positions
   pub weighted : (p : ℕ) → 1 ≤ p → p < m → at wl p ≡ weight_of p ⊗ at l p
 
 abbrev pub invariant-loop-m : goal.invariant-loop-m
-invariant-loop-m l = Inv l.x l.end l.l l.wl l.m
-
-abbrev pub decreases-loop-m : goal.decreases-loop-m
-decreases-loop-m l = l.end - l.m
+invariant-loop-m l = Inv l.x l.l l.wl l.m

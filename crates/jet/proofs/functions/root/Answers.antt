@@ -19,7 +19,7 @@ pub loop-m-init : goal.loop-m-init
 unfolding root_at
 loop-m-init c =
     let x = c.args.x.now in
-    (omega arith, omega arith, fill_turn (root_at x) (root_local x) 0 c.sqrt.result _ (omega arith) (fill_start _) c.sqrt.ensures)
+    fill_turn (root_at x) (root_local x) 0 c.sqrt.result _ (omega arith) (fill_start _) c.sqrt.ensures
 
 pub next-requires : goal.next-requires
 next-requires c = (search rules, search rules, least _)
@@ -31,10 +31,10 @@ pub loop-m-preserved : goal.loop-m-preserved
 unfolding root_at
 loop-m-preserved c =
     let x = c.args.x.now in
-    let first : at c.loop-m.r 0 ≡ root (at x 0) = ap (λ (r : List Float). at r 0) c.loop-m.invariant.2 ∙ first_filled (root_at x) c.loop-m.m c.loop-m.invariant.0 (omega arith) in
-    (omega arith, omega arith, fill_turn (root_at x) (root_local x) c.loop-m.m _ c.loop-m.r (omega arith) c.loop-m.invariant.2 (root_row x c.loop-m.r c.loop-m.m _ _ _ c.loop-m.invariant.0 c.next.ensures c.minus.ensures (c.sqrt.ensures ∙ sym first)))
+    let first : at c.loop-m.r 0 ≡ root (at x 0) = ap (λ (r : List Float). at r 0) c.loop-m.invariant ∙ first_filled (root_at x) c.loop-m.m (omega arith) (omega arith) in
+    fill_turn (root_at x) (root_local x) c.loop-m.m _ c.loop-m.r (omega arith) c.loop-m.invariant (root_row x c.loop-m.r c.loop-m.m _ _ _ (omega arith) c.next.ensures c.minus.ensures (c.sqrt.ensures ∙ sym first))
 
 pub returns : goal.returns
 unfolding root_of
 returns c =
-    filled (root_at c.args.x.now) c.args.end c.loop-m.m _ (omega arith) c.loop-m.invariant.2
+    filled (root_at c.args.x.now) c.args.end c.loop-m.m _ (omega arith) c.loop-m.invariant
