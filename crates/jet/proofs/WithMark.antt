@@ -1,11 +1,12 @@
 -- A jet with a mark put in: by its element, and of a plain number. Assumes nothing.
 use mathlib.Core.Path.{◌≡◌, refl, sym, ◌∙◌}
 use Prim.Native.Nat.{ℕ, ◌≤◌, ◌<◌}
+use native.Mathlib.Decide.{dec_lt}
 use native.Mathlib.Omega.{arith}
 use mathlib.Core.Bool.{Bool, true, false, cond}
 use mathlib.Core.List.{List}
 use lib.ListN.{length, set, length-set}
-use lib.Seq.{ext_get_or, get_or-set_same, get_or-set_other}
+use lib.Seq.{ext_get_or, set_out, get_or-set_same, get_or-set_other}
 use lib.Dec.{eqb}
 use borrow.Author.Tests.{eqb-true, eqb-false}
 use lib.Ieee.{Float, nan}
@@ -39,7 +40,18 @@ module _ (m : ℕ) (a : List Float) (h : length a ≡ positions) where
       go p true e l = absurd (let q = eqb-true p m e in omega arith)
       go p false e l = rw e
 
+-- a plain number with a mark
+pub with_mark_number : (m : ℕ) (x : Float) → with_mark_of m (number_of x) ≡ marked_of m x
+unfolding marked_of
+with_mark_number m x = go (dec_lt m positions)
+  where
+    long : length (number_of x) ≡ positions
+    long = unfold number_of in refl
+
+    go : Dec (m < positions) → with_mark_of m (number_of x) ≡ set (number_of x) m f1
+    go (yes h) = sym (put_mark m (number_of x) long h)
+    go (no h) = let k : positions ≤ m = omega arith in sym (no_mark m (number_of x) long k) ∙ sym (set_out (number_of x) m f1 (rw long k))
+
 -- a plain number with the mark e0
 pub marked_number : (x : Float) → with_mark_of 1 (number_of x) ≡ marked_of 1 x
-unfolding with_mark_of marked_of number_of build
-marked_number x = refl
+marked_number x = with_mark_number 1 x

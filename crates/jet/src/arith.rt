@@ -12,10 +12,7 @@ use crate::terms::{minus, plus};
 pub fn coefficient(a: Jet, m: usize) -> f64
     ensures { result ≡ coefficient_of a.c m }
 {
-    if m < 32 {
-        return a.c[m];
-    }
-    0.0 / 0.0
+    a.c.get(m).copied().unwrap_or(f64::NAN)
 }
 
 // A plain number.
@@ -31,12 +28,7 @@ pub fn number(x: f64) -> Jet
 pub fn marked(m: usize, x: f64) -> Jet
     ensures { result.c ≡ marked_of m x }
 {
-    let mut c = [0.0; 32];
-    c[0] = x;
-    if m < 32 {
-        c[m] = 1.0;
-    }
-    Jet { c }
+    with_mark(m, number(x))
 }
 
 // A jet with 1 at the position of a mark.
@@ -105,17 +97,13 @@ pub fn mul_to(n: usize, a: Jet, b: Jet) -> Jet
     if n == 4 {
         return mul_4(a, b);
     }
-    let x = a.c;
-    let y = b.c;
-    product(at_most(n), &x, &y)
+    product(at_most(n), &a.c, &b.c)
 }
 
 pub fn mul(a: Jet, b: Jet) -> Jet
     ensures { result.c ≡ product_of a.c b.c }
 {
-    let x = a.c;
-    let y = b.c;
-    product(32, &x, &y)
+    product(32, &a.c, &b.c)
 }
 
 // The coefficients of a quotient at positions below `end`.
@@ -136,17 +124,13 @@ pub fn div_to(n: usize, a: Jet, b: Jet) -> Jet
     if n == 4 {
         return div_4(a, b);
     }
-    let x = a.c;
-    let y = b.c;
-    quotient(at_most(n), &x, &y)
+    quotient(at_most(n), &a.c, &b.c)
 }
 
 pub fn div(a: Jet, b: Jet) -> Jet
     ensures { result.c ≡ quotient_of a.c b.c }
 {
-    let x = a.c;
-    let y = b.c;
-    quotient(32, &x, &y)
+    quotient(32, &a.c, &b.c)
 }
 
 // 1 over a.
@@ -168,13 +152,11 @@ fn factorial(k: usize) -> f64
     requires { k ≤ 3 }
     ensures { result ≡ factorial_of k }
 {
-    if k == 3 {
-        return 6.0;
+    match k {
+        3 => 6.0,
+        2 => 2.0,
+        _ => 1.0,
     }
-    if k == 2 {
-        return 2.0;
-    }
-    1.0
 }
 
 // The coefficient m of the k-th derivative by e0.
@@ -195,10 +177,9 @@ fn derivative_at(k: usize, a: &[f64; 32], m: usize) -> f64
 pub fn derivative(k: usize, a: Jet) -> Jet
     ensures { result.c ≡ derivative_of k a.c }
 {
-    let x = a.c;
     let mut c = [0.0; 32];
     for m in 0..32 {
-        c[m] = derivative_at(k, &x, m);
+        c[m] = derivative_at(k, &a.c, m);
     }
     Jet { c }
 }

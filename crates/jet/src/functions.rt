@@ -32,15 +32,13 @@ pub fn sqrt_to(n: usize, a: Jet) -> Jet
     if n == 4 {
         return sqrt_4(a);
     }
-    let x = a.c;
-    root(at_most(n), &x)
+    root(at_most(n), &a.c)
 }
 
 pub fn sqrt(a: Jet) -> Jet
     ensures { result.c ≡ root_of a.c }
 {
-    let x = a.c;
-    root(32, &x)
+    root(32, &a.c)
 }
 
 // The coefficients of a logarithm at positions below `end`. wl holds them, each times its weight.
@@ -69,13 +67,11 @@ pub fn ln_to(n: usize, a: Jet) -> Jet
     if n == 4 {
         return ln_4(a);
     }
-    let x = a.c;
-    logarithm(at_most(n), &x)
+    logarithm(at_most(n), &a.c)
 }
 
 pub fn ln(a: Jet) -> Jet
     ensures { result.c ≡ logarithm_of a.c }
 {
-    let x = a.c;
-    logarithm(32, &x)
+    logarithm(32, &a.c)
 }
