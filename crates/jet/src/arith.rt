@@ -4,9 +4,9 @@ ghost use Rattle.std.specs.Prelude.{◌≡◌, ◌≤◌, ◌<◌, min, []};
 ghost use Rattle.jet.specs.Positions.{positions};
 ghost use Rattle.jet.specs.Coefficients.{coefficient_of, number_of, marked_of, with_mark_of, sum_of, difference_of, negation_of, product_of, quotient_of, recip_of, square_of, factorial_of, derivative_at, derivative_of, cut};
 
-use crate::Jet;
 use crate::four::{div_4, mul_4};
 use crate::terms::{minus, plus};
+use crate::{Jet, POSITION_COUNT};
 
 // The coefficient at position m; beyond the last one NaN.
 pub fn coefficient(a: Jet, m: usize) -> f64
@@ -19,7 +19,7 @@ pub fn coefficient(a: Jet, m: usize) -> f64
 pub fn number(x: f64) -> Jet
     ensures { result.c ≡ number_of x }
 {
-    let mut c = [0.0; 32];
+    let mut c = [0.0; POSITION_COUNT];
     c[0] = x;
     Jet { c }
 }
@@ -36,7 +36,7 @@ pub fn with_mark(m: usize, a: Jet) -> Jet
     ensures { result.c ≡ with_mark_of m a.c }
 {
     let mut c = a.c;
-    if m < 32 {
+    if m < POSITION_COUNT {
         c[m] = 1.0;
     }
     Jet { c }
@@ -45,8 +45,8 @@ pub fn with_mark(m: usize, a: Jet) -> Jet
 pub fn add(a: Jet, b: Jet) -> Jet
     ensures { result.c ≡ sum_of a.c b.c }
 {
-    let mut c = [0.0; 32];
-    for m in 0..32 {
+    let mut c = [0.0; POSITION_COUNT];
+    for m in 0..POSITION_COUNT {
         c[m] = a.c[m] + b.c[m];
     }
     Jet { c }
@@ -55,8 +55,8 @@ pub fn add(a: Jet, b: Jet) -> Jet
 pub fn sub(a: Jet, b: Jet) -> Jet
     ensures { result.c ≡ difference_of a.c b.c }
 {
-    let mut c = [0.0; 32];
-    for m in 0..32 {
+    let mut c = [0.0; POSITION_COUNT];
+    for m in 0..POSITION_COUNT {
         c[m] = a.c[m] - b.c[m];
     }
     Jet { c }
@@ -65,8 +65,8 @@ pub fn sub(a: Jet, b: Jet) -> Jet
 pub fn neg(a: Jet) -> Jet
     ensures { result.c ≡ negation_of a.c }
 {
-    let mut c = [0.0; 32];
-    for m in 0..32 {
+    let mut c = [0.0; POSITION_COUNT];
+    for m in 0..POSITION_COUNT {
         c[m] = -a.c[m];
     }
     Jet { c }
@@ -76,15 +76,15 @@ pub fn neg(a: Jet) -> Jet
 pub fn at_most(n: usize) -> usize
     ensures { result ≡ min n positions }
 {
-    n.min(32)
+    n.min(POSITION_COUNT)
 }
 
 // The coefficients of a product at positions below `end`.
-fn product(end: usize, x: &[f64; 32], y: &[f64; 32]) -> Jet
+fn product(end: usize, x: &[f64; POSITION_COUNT], y: &[f64; POSITION_COUNT]) -> Jet
     requires { end ≤ positions }
     ensures { result.c ≡ cut end (product_of x.now y.now) }
 {
-    let mut c = [0.0; 32];
+    let mut c = [0.0; POSITION_COUNT];
     for m in 0..end {
         c[m] = plus(x[0] * y[m], x, y, m);
     }
@@ -103,15 +103,15 @@ pub fn mul_to(n: usize, a: Jet, b: Jet) -> Jet
 pub fn mul(a: Jet, b: Jet) -> Jet
     ensures { result.c ≡ product_of a.c b.c }
 {
-    product(32, &a.c, &b.c)
+    product(POSITION_COUNT, &a.c, &b.c)
 }
 
 // The coefficients of a quotient at positions below `end`.
-fn quotient(end: usize, x: &[f64; 32], y: &[f64; 32]) -> Jet
+fn quotient(end: usize, x: &[f64; POSITION_COUNT], y: &[f64; POSITION_COUNT]) -> Jet
     requires { end ≤ positions }
     ensures { result.c ≡ cut end (quotient_of x.now y.now) }
 {
-    let mut q = [0.0; 32];
+    let mut q = [0.0; POSITION_COUNT];
     for m in 0..end {
         q[m] = minus(x[m], &q, y, m, 0) / y[0];
     }
@@ -130,7 +130,7 @@ pub fn div_to(n: usize, a: Jet, b: Jet) -> Jet
 pub fn div(a: Jet, b: Jet) -> Jet
     ensures { result.c ≡ quotient_of a.c b.c }
 {
-    quotient(32, &a.c, &b.c)
+    quotient(POSITION_COUNT, &a.c, &b.c)
 }
 
 // 1 over a.
@@ -160,7 +160,7 @@ fn factorial(k: usize) -> f64
 }
 
 // The coefficient m of the k-th derivative by e0.
-fn derivative_at(k: usize, a: &[f64; 32], m: usize) -> f64
+fn derivative_at(k: usize, a: &[f64; POSITION_COUNT], m: usize) -> f64
     requires { m < positions }
     ensures { result ≡ derivative_at k a.now [] m }
 {
@@ -177,8 +177,8 @@ fn derivative_at(k: usize, a: &[f64; 32], m: usize) -> f64
 pub fn derivative(k: usize, a: Jet) -> Jet
     ensures { result.c ≡ derivative_of k a.c }
 {
-    let mut c = [0.0; 32];
-    for m in 0..32 {
+    let mut c = [0.0; POSITION_COUNT];
+    for m in 0..POSITION_COUNT {
         c[m] = derivative_at(k, &a.c, m);
     }
     Jet { c }

@@ -5,13 +5,13 @@ ghost use Rattle.float.specs.Ops.{f0};
 ghost use Rattle.float.specs.Root.{root};
 ghost use Rattle.jet.specs.Coefficients.{at, product_of, quotient_of, root_of, logarithm_of, cut};
 
-use crate::Jet;
+use crate::{Jet, POSITION_COUNT};
 
 // The jet with these four coefficients, and +0 at the other positions.
 fn along(c0: f64, c1: f64, c2: f64, c3: f64) -> Jet
     ensures { result.c ≡ c0 ∷ c1 ∷ c2 ∷ c3 ∷ replicate 28 f0 }
 {
-    let mut c = [0.0; 32];
+    let mut c = [0.0; POSITION_COUNT];
     c[0] = c0;
     c[1] = c1;
     c[2] = c2;

@@ -3,18 +3,18 @@ ghost use Rattle.std.specs.Prelude.{◌≡◌, ◌≤◌};
 ghost use Rattle.jet.specs.Positions.{positions};
 ghost use Rattle.jet.specs.Coefficients.{root_of, logarithm_of, cut};
 
-use crate::Jet;
 use crate::arith::at_most;
 use crate::four::{ln_4, sqrt_4};
 use crate::positions::next;
 use crate::terms::{minus, weight};
+use crate::{Jet, POSITION_COUNT};
 
 // The coefficients of a root at positions below `end`.
-fn root(end: usize, x: &[f64; 32]) -> Jet
+fn root(end: usize, x: &[f64; POSITION_COUNT]) -> Jet
     requires { end ≤ positions }
     ensures { result.c ≡ cut end (root_of x.now) }
 {
-    let mut r = [0.0; 32];
+    let mut r = [0.0; POSITION_COUNT];
     if end == 0 {
         return Jet { c: r };
     }
@@ -38,16 +38,16 @@ pub fn sqrt_to(n: usize, a: Jet) -> Jet
 pub fn sqrt(a: Jet) -> Jet
     ensures { result.c ≡ root_of a.c }
 {
-    root(32, &a.c)
+    root(POSITION_COUNT, &a.c)
 }
 
 // The coefficients of a logarithm at positions below `end`. wl holds them, each times its weight.
-fn logarithm(end: usize, x: &[f64; 32]) -> Jet
+fn logarithm(end: usize, x: &[f64; POSITION_COUNT]) -> Jet
     requires { end ≤ positions }
     ensures { result.c ≡ cut end (logarithm_of x.now) }
 {
-    let mut l = [0.0; 32];
-    let mut wl = [0.0; 32];
+    let mut l = [0.0; POSITION_COUNT];
+    let mut wl = [0.0; POSITION_COUNT];
     if end == 0 {
         return Jet { c: l };
     }
@@ -73,5 +73,5 @@ pub fn ln_to(n: usize, a: Jet) -> Jet
 pub fn ln(a: Jet) -> Jet
     ensures { result.c ≡ logarithm_of a.c }
 {
-    logarithm(32, &a.c)
+    logarithm(POSITION_COUNT, &a.c)
 }

@@ -15,8 +15,11 @@ pub use crate::arith::{
 pub use crate::four::{div_4, ln_4, mul_4, sqrt_4, sqrt_4_from};
 pub use crate::functions::{ln, ln_to, sqrt, sqrt_to};
 
+// How many coefficients a jet has.
+pub const POSITION_COUNT: usize = 32;
+
 // The coefficients, of e0^i e1^j e2^k e3^l at position i + 4j + 8k + 16l.
 #[derive(Clone, Copy)]
 pub struct Jet {
-    pub c: [f64; 32],
+    pub c: [f64; POSITION_COUNT],
 }

@@ -5,10 +5,11 @@ ghost use Rattle.float.specs.Ops.{◌⊕◌, ◌⊗◌};
 ghost use Rattle.jet.specs.Positions.{positions, not_above, among, pairs_of, weight_of};
 ghost use Rattle.jet.specs.Coefficients.{at, less};
 
+use crate::POSITION_COUNT;
 use crate::positions::next;
 
 // x plus a(p) * b(m - p) for each p not above m but the first, in turn.
-pub fn plus(x: f64, a: &[f64; 32], b: &[f64; 32], m: usize) -> f64
+pub fn plus(x: f64, a: &[f64; POSITION_COUNT], b: &[f64; POSITION_COUNT], m: usize) -> f64
     requires { m < positions }
     ensures { result ≡ foldl (λ s p. s ⊕ at a.now p ⊗ at b.now (m - p)) x (drop 1 (pairs_of m)) }
 {
@@ -22,7 +23,13 @@ pub fn plus(x: f64, a: &[f64; 32], b: &[f64; 32], m: usize) -> f64
 }
 
 // x less a(p) * b(m - p) for each p not above m and before it, from `first` on, in turn.
-pub fn minus(x: f64, a: &[f64; 32], b: &[f64; 32], m: usize, first: usize) -> f64
+pub fn minus(
+    x: f64,
+    a: &[f64; POSITION_COUNT],
+    b: &[f64; POSITION_COUNT],
+    m: usize,
+    first: usize,
+) -> f64
     requires { (m < positions) × (not_above first m ≡ true) }
     ensures { result ≡ less (λ p. at a.now p ⊗ at b.now (m - p)) x (among (m - first) first m) }
 {
