@@ -167,7 +167,7 @@ module _ (n : ℕ) (N : 0 < n) (U : n < 2 ^ 2098) where
   not_big = short (n * 2 ^ 1074) (2 ^ 1586 * 2 ^ 1586) (sticky (n * 2 ^ 1074)) (2 * 2 ^ 1586) (sym (sticky_cmp (n * 2 ^ 1074) (2 ^ 1586))) (mul-lt-mul_of_pos_right U (pow_pos 1074))
 
   -- i + 1 digits are dropped
-  dropped : (i : ℕ) × (size (sticky (n * 2 ^ 1074) / 2) ≡ suc (52 + suc i)) × (i < 1600)
+  pub dropped : (i : ℕ) × (size (sticky (n * 2 ^ 1074) / 2) ≡ suc (52 + suc i)) × (i < 1600)
   dropped =
       let s = sticky (n * 2 ^ 1074) / 2 in
       let z = size s in
@@ -187,10 +187,10 @@ module _ (n : ℕ) (N : 0 < n) (U : n < 2 ^ 2098) where
       room : (z : ℕ) → z ≤ 1586 → z - 54 < 1600
       room z h = omega arith
 
-  lo : 2 ^ (52 + suc dropped.0) ≤ sticky (n * 2 ^ 1074) / 2
+  pub lo : 2 ^ (52 + suc dropped.0) ≤ sticky (n * 2 ^ 1074) / 2
   lo = size_reaches (sticky (n * 2 ^ 1074) / 2) (52 + suc dropped.0) (le_of_eq (sym dropped.1))
 
-  hi : sticky (n * 2 ^ 1074) / 2 < 2 ^ suc (52 + suc dropped.0)
+  pub hi : sticky (n * 2 ^ 1074) / 2 < 2 ^ suc (52 + suc dropped.0)
   hi = subst (λ (z : ℕ). sticky (n * 2 ^ 1074) / 2 < 2 ^ z) dropped.1 (size-lt (sticky (n * 2 ^ 1074) / 2))
 
   -- the root in units: what is kept, Q, and 2 ^ (i + 1) for each
