@@ -1,5 +1,5 @@
 -- The library's square root is the one of specs/Root.antt: it takes the root to 1197 binary places more, which rounding does not see. Assumes nothing.
-use mathlib.Core.Path.{◌≡◌, refl, sym, ap, ◌∙◌, subst}
+use mathlib.Core.Path.{◌≡◌, refl, sym, ap, ◌∙◌}
 use Prim.Native.Nat.{ℕ, zero, suc, ◌+◌, ◌-◌, ◌*◌, ◌/◌, ◌^◌, ◌≤◌, ◌<◌, compare}
 use native.Mathlib.Nat.{le_antisymm, mul_assoc, mul_right_comm, mul-pos, mul-div_cancel, add-zero, pow-suc, zero-lt-suc, zero-mul, le_of_eq, not-le_of_lt, le-div_iff_mul-le, div-mul-le_self}
 use native.Mathlib.Omega.{arith}
@@ -114,7 +114,3 @@ sqrt_is (fin false (suc m) e) F =
     ap (λ (k : ℕ). round binary64 false (root_twice k) (2 ^ (1075 + 1197))) (radicand (suc m * up e) (down e) n (2 ^ 1074) (2 ^ 1074 * B) (down_pos e) v.1 ∙ sym (mul_assoc n (2 ^ 1074) B))
     ∙ ap (λ (k : ℕ). round binary64 false k (2 ^ (1075 + 1197))) (twice_is (n * 2 ^ 1074 * B))
     ∙ units_scaled n N (units_lt x n F v)
-
--- what owning an `f64` tells: the format holds it
-pub held : (x : Float) → fits binary64 x ≡ true → T (fits binary64 x)
-held x e = subst T (sym e) tt

@@ -73,14 +73,14 @@ fn of_bits(b: u64) -> f64
 pub fn ln(x: f64) -> f64
     ensures { result ≡ ln_of x }
 {
-    if x != x {
+    if x.is_nan() {
         return x;
     }
     if x < 0.0 {
-        return 0.0 / 0.0;
+        return f64::NAN;
     }
     if x == 0.0 {
-        return -1.0 / 0.0;
+        return f64::NEG_INFINITY;
     }
     let b = f64::to_bits(x);
     if b < INFINITY_BITS {

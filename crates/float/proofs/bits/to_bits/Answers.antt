@@ -1,11 +1,10 @@
 -- `float::bits::to_bits`.
-use mathlib.Core.Path.{sym}
-use Rattle.float.proofs.Casts.{equal_no_nan}
-use Rattle.float.proofs.RoundTrip.{nan_bits_lem}
+use mathlib.Core.Path.{sym, ap}
+use Rattle.std.specs.Float.{binary64}
+use Rattle.std.specs.Float.Ieee.{to_bits}
+use Rattle.float.proofs.SignLaws.{nan_only}
 use Rattle.float.proofs.bits.to_bits.Goals as goal
 
-pub float_to_bits-result : goal.float_to_bits-result
-float_to_bits-result c = equal_no_nan c.args.x c.if-x.true
-
-pub returns : goal.returns
-returns c = sym (nan_bits_lem c.args.x c.if-x.false)
+pub returns-then-is_nan : goal.returns-then-is_nan
+unfolding to_bits
+returns-then-is_nan c = sym (ap (to_bits binary64) (nan_only c.args.x (sym c.if-is_nan.ensures.value)))

@@ -1,12 +1,10 @@
 -- `float::sign::is_negative`.
-use Rattle.float.proofs.SignLaws.{negative_below, not_negative, zero_negative}
+use mathlib.Core.Path.{sym, ◌∙◌}
+use Rattle.float.proofs.SignLaws.{negative_same, nan_not_negative}
 use Rattle.float.proofs.sign.is_negative.Goals as goal
 
-pub returns-then-x : goal.returns-then-x
-returns-then-x c = negative_below c.args.x c.if-x.true
+pub returns-then-not-is_nan : goal.returns-then-not-is_nan
+returns-then-not-is_nan c = c.is_sign_negative.ensures ∙ negative_same c.args.x
 
-pub returns-then-x-2 : goal.returns-then-x-2
-returns-then-x-2 c = zero_negative c.args.x c.if-x-2.true
-
-pub returns : goal.returns
-returns c = not_negative c.args.x c.if-x.false c.if-x-2.false
+pub returns-else-not-is_nan : goal.returns-else-not-is_nan
+returns-else-not-is_nan c = rw c.if-not-is_nan.false (nan_not_negative c.args.x (sym c.is_nan.ensures.value ∙ c.if-not-is_nan.false))

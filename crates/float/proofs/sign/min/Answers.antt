@@ -1,18 +1,15 @@
 -- `float::sign::min`.
-use mathlib.Core.Bool.{true, false}
-use lib.Ieee.{lt}
 use Rattle.float.specs.Sign.{min_of}
-use Rattle.float.proofs.SignLaws.{second_of_nan, one_of_two}
 use Rattle.float.proofs.sign.min.Goals as goal
 
-pub returns-then-x : goal.returns-then-x
+pub returns-then-is_nan : goal.returns-then-is_nan
 unfolding min_of
-returns-then-x c = let a = c.args in second_of_nan a.x a.y (lt a.y a.x) c.if-x.true
+returns-then-is_nan c = rw (← c.if-is_nan.ensures.value)
 
 pub returns-then-y-x : goal.returns-then-y-x
 unfolding min_of
-returns-then-y-x c = let a = c.args in one_of_two a.x a.y (lt a.y a.x) true c.if-x.false c.if-y-x.true
+returns-then-y-x c = rw (← c.if-is_nan.ensures.value, c.if-y-x.true)
 
-pub returns : goal.returns
+pub returns-else-y-x : goal.returns-else-y-x
 unfolding min_of
-returns c = let a = c.args in one_of_two a.x a.y (lt a.y a.x) false c.if-x.false c.if-y-x.false
+returns-else-y-x c = rw (← c.if-is_nan.ensures.value, c.if-y-x.false)
