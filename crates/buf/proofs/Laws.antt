@@ -4,11 +4,12 @@ use Prim.Native.Nat.{ℕ, zero, suc, ◌+◌, ◌-◌, ◌*◌, ◌/◌, ◌%◌
 use mathlib.Core.Bool.{true}
 use mathlib.Core.List.{List, [], ◌∷◌, ◌++◌, append_assoc}
 use native.Mathlib.Omega.{arith}
-use native.Mathlib.Nat.{le_of_suc-le-suc, not-suc-le-zero, pow-suc, add-zero, add-suc, sub-zero}
+use native.Mathlib.Nat.{div-div-eq-div-mul, le_of_suc-le-suc, not-suc-le-zero, pow-suc, add-zero, add-suc, sub-zero}
 use lib.ListN.{length, take, drop, get_or, set, length-replicate, length-take, length-drop, drop_of_length-le}
-use lib.Seq.{sets, sets-eq, length-sets, drop-cons, drop-set-lt, take-set-le, take-set-lt, drop-set-add, drop-drop, take-take, take_at, drop_at, length-take-le}
+use lib.Seq.{get_or-take, get_or-drop, sets, sets-eq, length-sets, drop-cons, drop-set-lt, take-set-le, take-set-lt, drop-set-add, drop-drop, take-take, take_at, drop_at, length-take-le}
 use lib.Dec.{leb}
 use borrow.Author.Tests.{leb-true}
+use Rattle.std.specs.Int.{w64, byte_at, bytes_low_first, to_le_bytes, from_le_bytes}
 use Rattle.buf.specs.Bytes.{zeros, le, bytes_of, part, splice, num_at, put_num}
 
 -- ---- numbers
@@ -213,16 +214,6 @@ put_step s at k x i h =
     ∙ splice_cons s (at + i) (x % 256) (bytes_of (k - (i + 1)) (x / 256))
     ∙ ap (λ (n : ℕ). splice (set s (at + i) (x % 256)) n (bytes_of (k - (i + 1)) (x / 256))) e₂
 
-pub copy_step : (s b : List ℕ) (at i : ℕ) → i < length b
-    → splice s (at + i) (drop i b) ≡ splice (set s (at + i) (get_or b i 0)) (at + (i + 1)) (drop (i + 1) b)
-copy_step s b at i h =
-    let e₁ : suc i ≡ i + 1 = omega arith in
-    let e₂ : suc (at + i) ≡ at + (i + 1) = omega arith in
-    ap (splice s (at + i)) (drop-cons b i 0 h)
-    ∙ splice_cons s (at + i) (get_or b i 0) (drop (suc i) b)
-    ∙ ap (λ (n : ℕ). splice (set s (at + i) (get_or b i 0)) n (drop (suc i) b)) e₂
-    ∙ ap (λ (n : ℕ). splice (set s (at + i) (get_or b i 0)) (at + (i + 1)) (drop n b)) e₁
-
 -- where a loop begins, and where it ends
 pub get_none : (s : List ℕ) (at k i : ℕ) → i ≡ k → 0 ≡ le (part s (at + i) (k - i))
 unfolding le part
@@ -247,12 +238,41 @@ get_eight s at b0 b1 b2 b3 b4 b5 b6 b7 h e0 l0 e1 l1 e2 l2 e3 l3 e4 l4 e5 l5 e6 
     let same : b0 + b1 * 0x100 + b2 * 0x10000 + b3 * 0x1000000 + b4 * 0x100000000 + b5 * 0x10000000000 + b6 * 0x1000000000000 + b7 * 0x100000000000000 ≡ ((((((((0) * 256 + b7) * 256 + b6) * 256 + b5) * 256 + b4) * 256 + b3) * 256 + b2) * 256 + b1) * 256 + b0 = omega arith in
     same ∙ get_all s at 8 0 (((((((((0) * 256 + b7) * 256 + b6) * 256 + b5) * 256 + b4) * 256 + b3) * 256 + b2) * 256 + b1) * 256 + b0) (omega arith) v0
 
+-- `u64::from_le_bytes` of a part, and `u64::to_le_bytes`
+part_at : (s : List ℕ) (at n i : ℕ) → i < n → get_or (part s at n) i 0 ≡ get_or s (at + i) 0
+unfolding part
+part_at s at n i h = get_or-take n (drop at s) i 0 h ∙ get_or-drop at s i 0
+
+pub from_eight : (s bs : List ℕ) (at : ℕ) → at + 8 ≤ length s → bs ≡ take 8 (drop at s) → ((i : ℕ) → get_or s i 0 < 256) → from_le_bytes w64 bs ≡ num_at 8 s at
+unfolding part
+from_eight s bs at h e small = rw e (get_eight s at _ _ _ _ _ _ _ _ h (it 0 (omega arith) ∙ ap (λ (n : ℕ). get_or s n 0) (add-zero at)) (low 0 (omega arith)) (it 1 (omega arith)) (low 1 (omega arith)) (it 2 (omega arith)) (low 2 (omega arith)) (it 3 (omega arith)) (low 3 (omega arith)) (it 4 (omega arith)) (low 4 (omega arith)) (it 5 (omega arith)) (low 5 (omega arith)) (it 6 (omega arith)) (low 6 (omega arith)) (it 7 (omega arith)) (low 7 (omega arith)))
+  where
+    it : (i : ℕ) → i < 8 → get_or (part s at 8) i 0 ≡ get_or s (at + i) 0
+    it i l = part_at s at 8 i l
+
+    low : (i : ℕ) → i < 8 → get_or (part s at 8) i 0 < 256
+    low i l = rw (part_at s at 8 i l) (small (at + i))
+
+low_first : (k i n : ℕ) → bytes_low_first i k n ≡ bytes_of k (n / 256 ^ i)
+unfolding bytes_of
+low_first zero i n = refl
+low_first (suc k) i n =
+    ap (λ (l : List ℕ). byte_at i n ∷ l) (low_first k (suc i) n ∙ ap (bytes_of k) (sym (div-div-eq-div-mul n (256 ^ i) 256 ∙ ap (λ (m : ℕ). n / m) (sym (pow-suc 256 i)))))
+    ∙ ap (λ (b : ℕ). b ∷ bytes_of k (n / 256 ^ i / 256)) (byte_is i)
+  where
+    byte_is : (i : ℕ) → byte_at i n ≡ n / 256 ^ i % 256
+    byte_is zero = omega arith
+    byte_is (suc i) = refl
+
+pub to_eight : (n : ℕ) → to_le_bytes w64 n ≡ bytes_of 8 n
+to_eight n = low_first 8 0 n ∙ ap (bytes_of 8) (by_one n)
+  where
+    by_one : (n : ℕ) → n / 1 ≡ n
+    by_one n = omega arith
+
 pub put_all : (s w : List ℕ) (at k x i : ℕ) → k ≤ i → splice s (at + i) (bytes_of (k - i) x) ≡ w → s ≡ w
 unfolding bytes_of
 put_all s w at k x i h e = let z : k - i ≡ 0 = omega arith in sym (splice_nil s (at + i)) ∙ ap (λ (n : ℕ). splice s (at + i) (bytes_of n x)) (sym z) ∙ e
-
-pub copy_all : (s w b : List ℕ) (at i : ℕ) → length b ≤ i → splice s (at + i) (drop i b) ≡ w → s ≡ w
-copy_all s w b at i h e = sym (splice_nil s (at + i)) ∙ ap (splice s (at + i)) (sym (drop_of_length-le b h)) ∙ e
 
 -- ---- a part that is lent and comes back
 

@@ -5,22 +5,14 @@ ghost use Rattle.std.specs.Prelude.{◌≡◌, ◌+◌, ◌≤◌, ◌<◌, true
 ghost use Rattle.float.specs.Sign.{finite_of};
 ghost use Rattle.buf.specs.Bytes.{num_at, put_num, splice, u64_at, put_u64, f64_at, put_f64};
 
-fn wide(x: u8) -> u64
-    ensures { (result ≡ x) × (result < 256) }
-{
-    x as u64
-}
-
 // The number of k bytes at index at.
 pub fn get_num(s: &[u8], at: usize, k: usize) -> u64
     requires { (at + k ≤ length s.now) × (k ≤ 8) }
     ensures { result ≡ num_at k s.now at }
 {
     let mut v: u64 = 0;
-    let mut i = k;
-    while 0 < i {
-        i = i - 1;
-        v = v * 256 + wide(s[at + i]);
+    for i in (0..k).rev() {
+        v = v * 256 + u64::from(s[at + i]);
     }
     v
 }
@@ -31,11 +23,9 @@ pub fn put_num(s: &mut [u8], at: usize, k: usize, v: u64)
     ensures { s.new ≡ put_num k s.old at v }
 {
     let mut x = v;
-    let mut i: usize = 0;
-    while i < k {
+    for i in 0..k {
         s[at + i] = (x % 256) as u8;
-        x = x / 256;
-        i = i + 1;
+        x /= 256;
     }
 }
 
@@ -44,40 +34,23 @@ pub fn put_part(s: &mut [u8], at: usize, b: &[u8])
     requires { at + length b.now ≤ length s.old }
     ensures { s.new ≡ splice s.old at b.now }
 {
-    let mut i: usize = 0;
-    while i < b.len() {
-        s[at + i] = b[i];
-        i = i + 1;
-    }
+    s[at..at + b.len()].copy_from_slice(b);
 }
 
-// Without a loop, so that the compiler makes one load of it.
+// The compiler makes one load of it.
 pub fn get_u64(s: &[u8], at: usize) -> u64
     requires { at + 8 ≤ length s.now }
     ensures { result ≡ u64_at s.now at }
 {
-    let b0 = wide(s[at]);
-    let b1 = wide(s[at + 1]);
-    let b2 = wide(s[at + 2]);
-    let b3 = wide(s[at + 3]);
-    let b4 = wide(s[at + 4]);
-    let b5 = wide(s[at + 5]);
-    let b6 = wide(s[at + 6]);
-    let b7 = wide(s[at + 7]);
-    b0 + b1 * 0x100
-        + b2 * 0x1_0000
-        + b3 * 0x100_0000
-        + b4 * 0x1_0000_0000
-        + b5 * 0x100_0000_0000
-        + b6 * 0x1_0000_0000_0000
-        + b7 * 0x100_0000_0000_0000
+    let bytes = s[at..].first_chunk().unwrap();
+    u64::from_le_bytes(*bytes)
 }
 
 pub fn put_u64(s: &mut [u8], at: usize, v: u64)
     requires { at + 8 ≤ length s.old }
     ensures { s.new ≡ put_u64 s.old at v }
 {
-    put_num(s, at, 8, v)
+    s[at..at + 8].copy_from_slice(&v.to_le_bytes());
 }
 
 // Every NaN pattern gives the one NaN.

@@ -1,7 +1,17 @@
 -- `buf::get_u64`.
-use Rattle.buf.proofs.Laws.{get_eight}
+use mathlib.Core.Path.{◌∙◌}
+use Prim.Native.Nat.{◌-◌}
+use native.Mathlib.Omega.{arith}
+use lib.ListN.{length, take, drop}
+use lib.Seq.{take-take}
+use Rattle.std.proofs.Math.Facts.{Fits-lt-pow}
+use Rattle.std.specs.Array.{IsFirstChunk}
+use Rattle.buf.proofs.Laws.{from_eight}
 use Rattle.buf.proofs.get_u64.Goals as goal
 
 pub returns : goal.returns
 returns c =
-    get_eight c.args.s.now c.args.at _ _ _ _ _ _ _ _ c.requires c.wide-b0.ensures.0 c.wide-b0.ensures.1 c.wide-b1.ensures.0 c.wide-b1.ensures.1 c.wide-b2.ensures.0 c.wide-b2.ensures.1 c.wide-b3.ensures.0 c.wide-b3.ensures.1 c.wide-b4.ensures.0 c.wide-b4.ensures.1 c.wide-b5.ensures.0 c.wide-b5.ensures.1 c.wide-b6.ensures.0 c.wide-b6.ensures.1 c.wide-b7.ensures.0 c.wide-b7.ensures.1
+    let s = c.args.s.now in
+    let at = c.args.at in
+    let chunk : IsFirstChunk (take (length s - at) (drop at s)) c.unwrap-bytes.result.now 8 = rw c.unwrap-bytes.ensures at c.first_chunk.ensures.cases in
+    c.from_le_bytes.ensures ∙ from_eight s _ at c.requires (chunk.same ∙ take-take 8 (length s - at) (drop at s) (omega arith)) (λ i. Fits-lt-pow (c.type_inv.s i))
