@@ -5,7 +5,7 @@ use mathlib.Core.Bool.{true}
 use mathlib.Core.List.{List, [], ◌∷◌, ◌++◌, append_assoc}
 use native.Mathlib.Omega.{arith}
 use native.Mathlib.Nat.{div-div-eq-div-mul, le_of_suc-le-suc, not-suc-le-zero, pow-suc, add-zero, add-suc, sub-zero}
-use lib.ListN.{length, take, drop, get_or, set, length-replicate, length-take, length-drop, drop_of_length-le}
+use lib.ListN.{length, take, drop, get_or, set, length-replicate, length-take, length-drop}
 use lib.Seq.{get_or-take, get_or-drop, sets, sets-eq, length-sets, drop-cons, drop-set-lt, take-set-le, take-set-lt, drop-set-add, drop-drop, take-take, take_at, drop_at, length-take-le}
 use lib.Dec.{leb}
 use borrow.Author.Tests.{leb-true}

@@ -8,25 +8,24 @@ fn glyph(d: u64) -> u8
     ensures { result ≡ glyph_of d }
 {
     if d < 10 {
-        return 48 + d as u8;
+        b'0' + d as u8
+    } else {
+        b'A' - 10 + d as u8
     }
-    55 + d as u8
 }
 
 // How many decimal digits n has.
 pub fn width(n: u64) -> usize
     ensures { (result ≡ width_of n) × (result ≤ 20) }
 {
-    let mut k: usize = 1;
     let mut rest = n;
-    while k < 20 {
+    for k in 1..20 {
         if rest < 10 {
             return k;
         }
-        rest = rest / 10;
-        k += 1;
+        rest /= 10;
     }
-    k
+    20
 }
 
 // Stores the last `count` digits of n from index at, the most significant first.
@@ -34,11 +33,9 @@ pub fn put_digits(out: &mut [u8], at: usize, base: u64, count: usize, n: u64)
     requires { (at + count ≤ length out.old) × (0 < base) × (base ≤ 16) }
     ensures { out.new ≡ splice out.old at (digits base count n) }
 {
-    let mut left = count;
     let mut rest = n;
-    while 0 < left {
-        left -= 1;
-        out[at + left] = glyph(rest % base);
-        rest = rest / base;
+    for i in (0..count).rev() {
+        out[at + i] = glyph(rest % base);
+        rest /= base;
     }
 }

@@ -1,8 +1,6 @@
-use mathlib.Core.Path.{refl, sym, ◌∙◌}
+use mathlib.Core.Path.{sym, ◌∙◌}
 use native.Mathlib.Nat.{add-zero, sub-zero}
-use Prim.Native.Nat.{◌+◌}
 use native.Mathlib.Omega.{arith}
-use lib.ListN.{length-set}
 use Rattle.buf.specs.Bytes.{put_num}
 use Rattle.buf.proofs.Laws.{put_step, put_all}
 use Rattle.buf.proofs.put_num.Goals as goal

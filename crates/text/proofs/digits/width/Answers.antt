@@ -1,3 +1,4 @@
+use mathlib.Core.Path.{◌≡◌, ◌∙◌}
 use native.Mathlib.Nat.{zero-add}
 use native.Mathlib.Omega.{arith}
 use borrow.Author.Rules.{rules}
@@ -7,13 +8,13 @@ use Rattle.text.proofs.digits.width.Goals as goal
 
 pub loop-k-init : goal.loop-k-init
 unfolding width
-loop-k-init c = (omega arith, omega arith, rw zero-add)
+loop-k-init c = rw zero-add
 
 pub returns-then-rest-lt10 : goal.returns-then-rest-lt10
-returns-then-rest-lt10 c = (width_ends c.loop-k.k _ _ c.loop-k.invariant.0 c.loop-k-test.true c.if-rest-lt10.true c.loop-k.invariant.2, search rules)
+returns-then-rest-lt10 c = (width_ends c.loop-k.k _ _ (omega arith) (omega arith) c.if-rest-lt10.true c.loop-k.invariant, search rules)
 
 pub loop-k-preserved : goal.loop-k-preserved
-loop-k-preserved c = (omega arith, omega arith, width_again c.loop-k.k _ _ c.loop-k.invariant.0 c.loop-k-test.true c.if-rest-lt10.false c.loop-k.invariant.2)
+loop-k-preserved c = width_again c.loop-k.k _ _ (omega arith) (omega arith) c.if-rest-lt10.false c.loop-k.invariant
 
 pub returns : goal.returns
-returns c = (width_full c.loop-k.k _ _ c.loop-k-test.false c.loop-k.invariant.1 c.loop-k.invariant.2, search rules)
+returns c = let last : 20 ≡ c.loop-k.k = omega arith in (last ∙ width_full c.loop-k.k _ _ (omega arith) (omega arith) c.loop-k.invariant, search rules)
