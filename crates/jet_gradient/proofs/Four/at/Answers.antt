@@ -1,7 +1,7 @@
--- `jet_gradient::four_at`.
+-- `jet_gradient::Four::at`.
 use mathlib.Core.Path.{refl}
 use Rattle.jet_gradient.specs.Beside.{four_at}
-use Rattle.jet_gradient.proofs.four_at.Goals as goal
+use Rattle.jet_gradient.proofs.Four.at.Goals as goal
 
 pub returns : goal.returns
 unfolding four_at
