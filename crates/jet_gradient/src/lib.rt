@@ -1,6 +1,6 @@
-// The coefficients of first order in e1, e2 and e3 at positions below w, at most 20: those along e0, and those along e0 beside e1 (4 to 7), e2 (8 to 11) or e3 (16 to 19),
-// without a loop or a table. The evaluations of critical points and of stability need no others, and those beside e3 only where three unknowns are marked. The first four are
-// `jet`'s; beside a mark the same four terms stand for each mark.
+// The coefficients of first order in e1, e2 and e3 at positions below W: up to 20 without a loop or a table, those along e0 and those along e0 beside e1 (4 to 7), e2 (8 to 11)
+// or e3 (16 to 19). The evaluations need no others: four along the density, twelve where two unknowns are marked, twenty where three are. The first four are `jet`'s; beside a
+// mark the same four terms stand for each mark.
 #![tactic(auto)]
 
 ghost use Rattle.std.specs.Prelude.{◌≡◌, ◌≤◌};
@@ -181,41 +181,49 @@ fn logarithm_from(a: Jet, l: Four, m: usize) -> Four
     Four { c0, c1, c2, c3 }
 }
 
-// Each function below is made once for each W that is used, without the tests of W.
+// W is a constant, so that no test of it is left where a function is used.
 pub fn add<const W: usize>(a: Jet, b: Jet) -> Jet
-    requires { W ≤ 20 }
     ensures { Upto W result.c (sum_of a.c b.c) }
 {
-    if W <= 4 {
+    if W > 20 {
         return jet::add(a, b);
     }
-    joined(
-        sum_from(a, b, 0),
-        sum_from(a, b, 4),
-        sum_from(a, b, 8),
-        sum_from(a, b, 16),
-    )
+    let l = sum_from(a, b, 0);
+    if W <= 4 {
+        return joined(l, NO_FOUR, NO_FOUR, NO_FOUR);
+    }
+    let u = sum_from(a, b, 4);
+    let v = sum_from(a, b, 8);
+    if W <= 12 {
+        return joined(l, u, v, NO_FOUR);
+    }
+    joined(l, u, v, sum_from(a, b, 16))
 }
 
 pub fn sub<const W: usize>(a: Jet, b: Jet) -> Jet
-    requires { W ≤ 20 }
     ensures { Upto W result.c (difference_of a.c b.c) }
 {
-    if W <= 4 {
+    if W > 20 {
         return jet::sub(a, b);
     }
-    joined(
-        difference_from(a, b, 0),
-        difference_from(a, b, 4),
-        difference_from(a, b, 8),
-        difference_from(a, b, 16),
-    )
+    let l = difference_from(a, b, 0);
+    if W <= 4 {
+        return joined(l, NO_FOUR, NO_FOUR, NO_FOUR);
+    }
+    let u = difference_from(a, b, 4);
+    let v = difference_from(a, b, 8);
+    if W <= 12 {
+        return joined(l, u, v, NO_FOUR);
+    }
+    joined(l, u, v, difference_from(a, b, 16))
 }
 
 pub fn mul<const W: usize>(a: Jet, b: Jet) -> Jet
-    requires { W ≤ 20 }
     ensures { Upto W result.c (product_of a.c b.c) }
 {
+    if W > 20 {
+        return jet::mul(a, b);
+    }
     let low = jet::mul_4(a, b);
     if W <= 4 {
         return low;
@@ -230,9 +238,11 @@ pub fn mul<const W: usize>(a: Jet, b: Jet) -> Jet
 }
 
 pub fn div<const W: usize>(a: Jet, b: Jet) -> Jet
-    requires { W ≤ 20 }
     ensures { Upto W result.c (quotient_of a.c b.c) }
 {
+    if W > 20 {
+        return jet::div(a, b);
+    }
     let low = jet::div_4(a, b);
     if W <= 4 {
         return low;
@@ -248,9 +258,12 @@ pub fn div<const W: usize>(a: Jet, b: Jet) -> Jet
 
 // The root of a, from the root r0 of its first coefficient.
 pub fn sqrt_from<const W: usize>(r0: f64, a: Jet) -> Jet
-    requires { (W ≤ 20) × (r0 ≡ root (at a.c 0)) }
+    requires { r0 ≡ root (at a.c 0) }
     ensures { Upto W result.c (root_of a.c) }
 {
+    if W > 20 {
+        return jet::sqrt(a);
+    }
     let low = jet::sqrt_4_from(r0, a);
     if W <= 4 {
         return low;
@@ -265,16 +278,17 @@ pub fn sqrt_from<const W: usize>(r0: f64, a: Jet) -> Jet
 }
 
 pub fn sqrt<const W: usize>(a: Jet) -> Jet
-    requires { W ≤ 20 }
     ensures { Upto W result.c (root_of a.c) }
 {
     sqrt_from::<W>(float::sqrt(a.c[0]), a)
 }
 
 pub fn ln<const W: usize>(a: Jet) -> Jet
-    requires { W ≤ 20 }
     ensures { Upto W result.c (logarithm_of a.c) }
 {
+    if W > 20 {
+        return jet::ln(a);
+    }
     let low = jet::ln_4(a);
     if W <= 4 {
         return low;

@@ -10,7 +10,6 @@ use jet_gradient::{add, div, mul, sqrt, sub};
 
 // The smallest eigenvalue.
 fn smallest<const W: usize>(m11: Jet, m12: Jet, m22: Jet) -> Jet
-    requires { W ≤ 20 }
     ensures { Upto W result.c (smallest_of m11.c m12.c m22.c) }
 {
     let d = sub::<W>(m11, m22);
@@ -20,14 +19,12 @@ fn smallest<const W: usize>(m11: Jet, m12: Jet, m22: Jet) -> Jet
 }
 
 fn length<const W: usize>(x: Jet, y: Jet) -> Jet
-    requires { W ≤ 20 }
     ensures { Upto W result.c (length_of x.c y.c) }
 {
     sqrt::<W>(add::<W>(mul::<W>(x, x), mul::<W>(y, y)))
 }
 
 pub fn smallest_ev<const W: usize>(m11: Jet, m12: Jet, m22: Jet) -> Eigenpair
-    requires { W ≤ 20 }
     ensures { Smallest W m11.c m12.c m22.c result }
 {
     let l = smallest::<W>(m11, m12, m22);
