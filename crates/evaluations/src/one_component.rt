@@ -11,21 +11,21 @@ ghost use Rattle.evaluations.specs.Critical.{energy_over_t, along, eigenvalue, m
 use crate::mole_numbers::{entry, ideal_gas, moved};
 use crate::types::ConditionJets;
 use eos::Blend;
-use eos::helmholtz_12::helmholtz_of_one;
-use jet::Jet;
+use eos::helmholtz::helmholtz_of_one;
+use jet::{Jet, marked, number};
+use jet_gradient::{add, div, sqrt};
 
 fn energy_over_t(blend: Blend, t: Jet, v: Jet, n: Jet) -> Jet
     ensures { Upto 12 result.c (energy_over_t blend 1 t.c v.c (λ i. n.c)) }
 {
-    jet_gradient::div_12(helmholtz_of_one(blend, t, v, n), t)
+    div::<12>(helmholtz_of_one::<12>(blend, t, v, n), t)
 }
 
 // The energy over t with the mole number marked.
 pub fn marked_energy(blend: Blend, t: Jet, v: Jet) -> Jet
     ensures { Upto 12 result.c (energy_over_t blend 1 t.c v.c (along (fractions_of blend) (eqb 0))) }
 {
-    let x = blend.x;
-    energy_over_t(blend, t, v, jet::marked(1, x[0]))
+    energy_over_t(blend, t, v, marked(1, blend.x[0]))
 }
 
 // The smallest eigenvalue of M, its only entry. e is the energy over t with the mole number marked, here and below.
@@ -33,9 +33,8 @@ pub fn smallest(blend: Blend, t: Jet, v: Jet, e: Jet) -> Jet
     requires { Upto 12 e.c (energy_over_t blend 1 t.c v.c (along (fractions_of blend) (eqb 0))) }
     ensures { Upto 12 result.c (eigenvalue blend 1 t.c v.c (fractions_of blend)) }
 {
-    let x = blend.x;
-    let s = jet_gradient::sqrt_12(jet::number(x[0]));
-    entry(12, jet::derivative(2, e), s, s, 1.0)
+    let s = sqrt::<12>(number(blend.x[0]));
+    entry::<12>(jet::derivative(2, e), s, s, 1.0)
 }
 
 // A mole number of 1, which moves by its own mark: the moved and the marked one are then the same jet.
@@ -50,9 +49,9 @@ fn moved_along_one(z: f64) -> Jet
     ensures { Upto 12 result.c (moved_of (number_of z) (number_of f1)) }
 {
     if is_one(z) {
-        return jet::marked(1, z);
+        return marked(1, z);
     }
-    moved(12, jet::number(z), jet::number(1.0))
+    moved::<12>(number(z), number(1.0))
 }
 
 // The energy at the moved mole number n, which is e where that is the marked one.
@@ -60,8 +59,7 @@ fn moved_energy(blend: Blend, t: Jet, v: Jet, n: Jet, e: Jet) -> Jet
     requires { Upto 12 n.c (moved_of (number_of (nth blend.x 0)) (number_of f1)) × Upto 12 e.c (energy_over_t blend 1 t.c v.c (along (fractions_of blend) (eqb 0))) }
     ensures { Upto 12 result.c (energy_over_t blend 1 t.c v.c (λ i. n.c)) }
 {
-    let x = blend.x;
-    if is_one(x[0]) {
+    if is_one(blend.x[0]) {
         return e;
     }
     energy_over_t(blend, t, v, n)
@@ -71,10 +69,9 @@ fn third_derivative(blend: Blend, t: Jet, v: Jet, e: Jet) -> Jet
     requires { Upto 12 e.c (energy_over_t blend 1 t.c v.c (along (fractions_of blend) (eqb 0))) }
     ensures { Upto 12 result.c (third_derivative blend 1 t.c v.c (fractions_of blend)) }
 {
-    let x = blend.x;
-    let n = moved_along_one(x[0]);
+    let n = moved_along_one(blend.x[0]);
     let a = moved_energy(blend, t, v, n, e);
-    jet::derivative(3, jet_gradient::add(12, a, ideal_gas(12, n, v)))
+    jet::derivative(3, add::<12>(a, ideal_gas::<12>(n, v)))
 }
 
 pub fn conditions(blend: Blend, t: Jet, v: Jet) -> ConditionJets

@@ -3,8 +3,8 @@ use Rattle.evaluations.proofs.CriticalLaws.{value_law, third_law}
 use Rattle.evaluations.proofs.two_components.conditions.Goals as goal
 
 pub returns : goal.returns
-returns c =
+returns g c =
     let a = c.args in
     let m = c.matrix-m in
     let e = c.smallest_ev-e in
-    (value_law a.w c.requires.0 a.blend a.t.c a.v.c a.z1.c a.z2.c m.result e.result m.ensures e.ensures, third_law a.w c.requires.0 a.blend a.t.c a.v.c a.z1.c a.z2.c m.result e.result m.ensures e.ensures _ _ _ c.moved.ensures c.moved-2.ensures c.third.ensures)
+    (value_law g.row.W c.requires.0 a.blend a.t.c a.v.c a.z1.c a.z2.c m.result e.result m.ensures e.ensures, third_law g.row.W c.requires.0 a.blend a.t.c a.v.c a.z1.c a.z2.c m.result e.result m.ensures e.ensures _ _ _ c.moved.ensures c.moved-2.ensures c.third.ensures)
