@@ -4,10 +4,10 @@ ghost use Rattle.std.specs.Prelude.{◌≡◌};
 ghost use Rattle.jet.specs.Coefficients.{Upto, marked_of, recip_of};
 ghost use Rattle.evaluations.specs.Critical.{eigenvalue, third_derivative, critical_count, fractions_of, criticality_of, criticality_conditions, stability_condition};
 
+use crate::one_component;
+use crate::two_components::TwoComponents;
 use crate::types::{ConditionJets, Criticality, Stability};
-use crate::{one_component, two_components};
 use eos::Blend;
-use eos::helmholtz::ak_roots;
 use jet::{Jet, marked, number};
 use jet_gradient::div;
 
@@ -22,15 +22,8 @@ fn conditions(blend: Blend, t: Jet, v: Jet) -> ConditionJets
     ensures { Upto 12 result.l.c (eigenvalue blend (critical_count blend) t.c v.c (fractions_of blend)) × Upto 12 result.c2.c (third_derivative blend (critical_count blend) t.c v.c (fractions_of blend)) }
 {
     if blend.n == 2 {
-        let root = ak_roots::<12>(blend, t);
-        return two_components::conditions::<12>(
-            blend,
-            root,
-            t,
-            v,
-            number(blend.x[0]),
-            number(blend.x[1]),
-        );
+        let pair = TwoComponents::<12>::at(blend, t);
+        return pair.conditions(v, number(blend.x[0]), number(blend.x[1]));
     }
     one_component::conditions(blend, t, v)
 }
