@@ -4,7 +4,7 @@ ghost use Rattle.std.specs.Prelude.{◌≡◌};
 ghost use Rattle.jet.specs.Coefficients.{Upto, marked_of, recip_of};
 ghost use Rattle.evaluations.specs.Critical.{eigenvalue, third_derivative, critical_count, fractions_of, criticality_of, criticality_conditions, stability_condition};
 
-use crate::one_component;
+use crate::one_component::OneComponent;
 use crate::two_components::TwoComponents;
 use crate::types::{ConditionJets, Criticality, Stability};
 use eos::Blend;
@@ -25,7 +25,7 @@ fn conditions(blend: Blend, t: Jet, v: Jet) -> ConditionJets
         let pair = TwoComponents::<12>::at(blend, t);
         return pair.conditions(v, number(blend.x[0]), number(blend.x[1]));
     }
-    one_component::conditions(blend, t, v)
+    OneComponent::at(blend, t, v).conditions()
 }
 
 // The two conditions with their derivatives by the unknowns that carry e1 and e2.
@@ -57,8 +57,7 @@ pub fn stability_condition(blend: Blend, temperature: f64, density: f64) -> Stab
 {
     let t = number(temperature);
     let v = volume(density);
-    let e = one_component::marked_energy(blend, t, v);
-    let l = one_component::smallest(blend, t, v, e);
+    let l = OneComponent::at(blend, t, v).smallest();
     Stability {
         f: l.c[0],
         df: l.c[8],

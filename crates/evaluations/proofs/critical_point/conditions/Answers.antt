@@ -17,4 +17,5 @@ returns-then-blend-eq2 c =
 
 pub returns : goal.returns
 returns c =
-    rw (count_one c.args.blend c.if-blend-eq2.false) c.conditions-2.ensures
+    let same = c.at.ensures in
+    rw (count_one c.args.blend c.if-blend-eq2.false) (rw (same.0, same.1, same.2) at c.conditions-2.ensures)
