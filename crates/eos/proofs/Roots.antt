@@ -34,8 +34,8 @@ module _ (f : ℕ → ℕ → Float) where
       (λ (g : 8 * p + q < 8 * i + j). get_or-set_other out (8 * i + j) (8 * p + q) v nan (λ d. omega arith) ∙ e p q a b g)
       (eq-or-lt_of_le (let l' : 8 * p + q ≤ 8 * i + j = omega arith in l'))
 
-  -- the diagonal ends a row
-  pub filled_row : (out : List Float) (i j : ℕ) → j ≡ i → Filled out i (j + 1) → Filled out (i + 1) 0
+  -- past the diagonal a row is filled
+  pub filled_row : (out : List Float) (i j : ℕ) → i < j → Filled out i j → Filled out (i + 1) 0
   filled_row out i j d e p q a b l =
       let c : p ≤ i = omega arith in
       e p q a b (⊎_elim (λ (g : p ≡ i). omega arith) (λ (g : p < i). omega arith) (eq-or-lt_of_le c))
@@ -52,13 +52,13 @@ module _ (f : ℕ → ℕ → Float) where
     unfolding place_of
     filled_place p q a b = placed p q a b (leb q p) refl
 
--- the root of the product of two of a's floats
-abbrev pub root_in : List Float → ℕ → ℕ → Float
-root_in a p q = root (nth a p ⊗ nth a q)
+-- the root of the product of the first coefficients of two of a's jets
+abbrev pub root_in : List Jet → ℕ → ℕ → Float
+root_in a p q = root (at (jet_at a p) 0 ⊗ at (jet_at a q) 0)
 
-pub root_in_commutes : (a : List Float) (p q : ℕ) → root_in a p q ≡ root_in a q p
-root_in_commutes a p q = ap root (product_commutes (nth a p) (nth a q))
+pub root_in_commutes : (a : List Jet) (p q : ℕ) → root_in a p q ≡ root_in a q p
+root_in_commutes a p q = ap root (product_commutes (at (jet_at a p) 0) (at (jet_at a q) 0))
 
--- the root for i and j in a table made of the first coefficients
-pub root_at_lem : (ak : List Jet) (first r : List Float) (n i j place : ℕ) → ((k : ℕ) → k < n → nth first k ≡ at (jet_at ak k) 0) → ((p q : ℕ) → p < n → q < n → nth r (place_of p q) ≡ root_in first p q) → place ≡ place_of i j → i < n → j < n → nth r place ≡ root (at (jet_at ak i) 0 ⊗ at (jet_at ak j) 0)
-root_at_lem ak first r n i j place ef er ep hi hj = ap (nth r) ep ∙ er i j hi hj ∙ rw (ef i hi, ef j hj)
+-- the root for i and j in a table of them
+pub root_at_lem : (ak : List Jet) (r : List Float) (n i j place : ℕ) → ((p q : ℕ) → p < n → q < n → nth r (place_of p q) ≡ root_in ak p q) → place ≡ place_of i j → i < n → j < n → nth r place ≡ root_in ak i j
+root_at_lem ak r n i j place er ep hi hj = ap (nth r) ep ∙ er i j hi hj

@@ -1,4 +1,4 @@
-// cubic.rs: the parameters of a blend and its maximum density. helmholtz_4.rt and helmholtz_gradient.rt have its energy on jets.
+// cubic.rs: the parameters of a blend and its maximum density. helmholtz.rt has its energy on jets.
 ghost use Rattle.std.specs.Prelude.{◌≡◌, ◌≤◌, ◌<◌};
 ghost use Rattle.float.specs.Ops.{◌⊗◌};
 ghost use Rattle.eos.specs.Indices.{total};
@@ -24,14 +24,7 @@ pub fn component(tc: f64, pc: f64, acentric_factor: f64) -> Component
 pub fn components(blend: Blend) -> usize
     ensures { (result ≡ components_of blend) × (1 ≤ result) × (result ≤ 8) }
 {
-    let n = blend.n;
-    if n == 0 {
-        return 1;
-    }
-    if n < 8 {
-        return n;
-    }
-    8
+    blend.n.clamp(1, 8)
 }
 
 // A blend from its rows.
@@ -46,20 +39,14 @@ pub fn blend(
 ) -> Blend
     ensures { result ≡ blend_by n tc.now a.now b.now kappa.now k_ij.now x.now }
 {
-    let tc = *tc;
-    let a = *a;
-    let b = *b;
-    let kappa = *kappa;
-    let k_ij = *k_ij;
-    let x = *x;
     Blend {
         n,
-        tc,
-        a,
-        b,
-        kappa,
-        k_ij,
-        x,
+        tc: *tc,
+        a: *a,
+        b: *b,
+        kappa: *kappa,
+        k_ij: *k_ij,
+        x: *x,
     }
 }
 
@@ -69,10 +56,8 @@ fn dot(n: usize, x: &[f64; 8], y: &[f64; 8]) -> f64
     ensures { result ≡ total n (λ i. nth x.now i ⊗ nth y.now i) }
 {
     let mut s = x[0] * y[0];
-    let mut i: usize = 1;
-    while i < n {
-        s = s + x[i] * y[i];
-        i += 1;
+    for i in 1..n {
+        s += x[i] * y[i];
     }
     s
 }

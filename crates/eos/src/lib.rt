@@ -1,10 +1,8 @@
-// The equation of state of Peng and Robinson: blends, their maximum density, and the Helmholtz energy on jets in three forms.
+// The equation of state of Peng and Robinson: blends, their maximum density, and the Helmholtz energy on jets.
 #![tactic(auto)]
 
 mod cubic;
-pub mod helmholtz_12;
-pub mod helmholtz_4;
-pub mod helmholtz_gradient;
+pub mod helmholtz;
 mod mixture;
 mod types;
 

@@ -4,46 +4,36 @@ ghost use Rattle.std.specs.Prelude.{◌≡◌};
 ghost use Rattle.jet.specs.Coefficients.{Upto, marked_of, recip_of};
 ghost use Rattle.evaluations.specs.Critical.{eigenvalue, third_derivative, critical_count, fractions_of, criticality_of, criticality_conditions, stability_condition};
 
+use crate::one_component::OneComponent;
+use crate::two_components::TwoComponents;
 use crate::types::{ConditionJets, Criticality, Stability};
-use crate::{one_component, two_components};
 use eos::Blend;
-use eos::helmholtz_gradient::ak_roots;
-use jet::Jet;
+use jet::{Jet, marked, number};
+use jet_gradient::div;
 
 // The molar volume, with its density marked.
 fn volume(density: f64) -> Jet
     ensures { Upto 12 result.c (recip_of (marked_of 8 density)) }
 {
-    jet_gradient::div(12, jet::number(1.0), jet::marked(8, density))
+    div::<12>(number(1.0), marked(8, density))
 }
 
 fn conditions(blend: Blend, t: Jet, v: Jet) -> ConditionJets
     ensures { Upto 12 result.l.c (eigenvalue blend (critical_count blend) t.c v.c (fractions_of blend)) × Upto 12 result.c2.c (third_derivative blend (critical_count blend) t.c v.c (fractions_of blend)) }
 {
     if blend.n == 2 {
-        let x = blend.x;
-        let root = ak_roots(12, blend, t);
-        return two_components::conditions(
-            12,
-            blend,
-            root,
-            t,
-            v,
-            jet::number(x[0]),
-            jet::number(x[1]),
-        );
+        let pair = TwoComponents::<12>::at(blend, t);
+        return pair.conditions(v, number(blend.x[0]), number(blend.x[1]));
     }
-    one_component::conditions(blend, t, v)
+    OneComponent::at(blend, t, v).conditions()
 }
 
 // The two conditions with their derivatives by the unknowns that carry e1 and e2.
 pub fn criticality(c: ConditionJets) -> Criticality
     ensures { result ≡ criticality_of c.l.c c.c2.c }
 {
-    let l = c.l;
-    let c2 = c.c2;
-    let f = l.c;
-    let g = c2.c;
+    let f = c.l.c;
+    let g = c.c2.c;
     Criticality {
         l: f[0],
         c2: g[0],
@@ -57,7 +47,7 @@ pub fn criticality(c: ConditionJets) -> Criticality
 pub fn criticality_conditions(blend: Blend, temperature: f64, density: f64) -> Criticality
     ensures { result ≡ criticality_conditions blend temperature density }
 {
-    let t = jet::marked(4, temperature);
+    let t = marked(4, temperature);
     let v = volume(density);
     criticality(conditions(blend, t, v))
 }
@@ -65,10 +55,11 @@ pub fn criticality_conditions(blend: Blend, temperature: f64, density: f64) -> C
 pub fn stability_condition(blend: Blend, temperature: f64, density: f64) -> Stability
     ensures { result ≡ stability_condition blend temperature density }
 {
-    let t = jet::number(temperature);
+    let t = number(temperature);
     let v = volume(density);
-    let e = one_component::marked_energy(blend, t, v);
-    let l = one_component::smallest(blend, t, v, e);
-    let f = l.c;
-    Stability { f: f[0], df: f[8] }
+    let l = OneComponent::at(blend, t, v).smallest();
+    Stability {
+        f: l.c[0],
+        df: l.c[8],
+    }
 }

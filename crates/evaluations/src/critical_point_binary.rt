@@ -3,88 +3,60 @@
 // first order below 20 are.
 ghost use Rattle.std.specs.Prelude.{◌≡◌};
 ghost use Rattle.jet.specs.Coefficients.{Upto};
-ghost use Rattle.eos.specs.Helmholtz.{aks_of, AkRoots};
 ghost use Rattle.evaluations.specs.CriticalBinary.{binary_eigenvalue, binary_third, criticality_conditions_t, pressure_condition, condition_of, criticality_conditions_p};
-ghost use Rattle.evaluations.specs.Entries.{Width, StateOf};
+ghost use Rattle.evaluations.specs.Entries.{StateOf};
 
 use crate::critical_point::criticality;
-use crate::two_components;
+use crate::two_components::TwoComponents;
 use crate::types::{BinaryState, Condition, ConditionJets, Criticality, PressureCriticality};
-use eos::helmholtz_gradient::{ak_roots, helmholtz_of_two};
-use eos::{Blend, PairRoots};
-use jet::Jet;
+use eos::Blend;
+use eos::helmholtz::helmholtz_of_two;
+use jet::{Jet, marked, number};
+use jet_gradient::{add, div, mul};
 
 // Density, molar volume and fractions of the partial densities rho0 and rho1.
-fn state(w: usize, rho0: Jet, rho1: Jet) -> BinaryState
-    requires { Width w }
-    ensures { StateOf w rho0.c rho1.c result }
+fn state<const W: usize>(rho0: Jet, rho1: Jet) -> BinaryState
+    ensures { StateOf W rho0.c rho1.c result }
 {
-    let density = jet_gradient::add(w, rho0, rho1);
+    let density = add::<W>(rho0, rho1);
     BinaryState {
         density,
-        v: jet_gradient::div(w, jet::number(1.0), density),
-        z0: jet_gradient::div(w, rho0, density),
-        z1: jet_gradient::div(w, rho1, density),
+        v: div::<W>(number(1.0), density),
+        z0: div::<W>(rho0, density),
+        z1: div::<W>(rho1, density),
     }
 }
 
-// The two conditions at the state of rho0 and rho1, from the `ak_roots` of the temperature t.
-fn conditions(
-    w: usize,
-    blend: Blend,
-    root: PairRoots,
-    t: Jet,
-    rho0: Jet,
-    rho1: Jet,
-) -> ConditionJets
-    requires { Width w × AkRoots w (aks_of blend t.c) root }
-    ensures { Upto w result.l.c (binary_eigenvalue blend t.c rho0.c rho1.c) × Upto w result.c2.c (binary_third blend t.c rho0.c rho1.c) }
+// The two conditions at the state of rho0 and rho1.
+fn conditions<const W: usize>(pair: &TwoComponents<W>, rho0: Jet, rho1: Jet) -> ConditionJets
+    ensures { Upto W result.l.c (binary_eigenvalue pair.now.blend pair.now.t.c rho0.c rho1.c) × Upto W result.c2.c (binary_third pair.now.blend pair.now.t.c rho0.c rho1.c) }
 {
-    let s = state(w, rho0, rho1);
-    let v = s.v;
-    let z0 = s.z0;
-    let z1 = s.z1;
-    two_components::conditions(w, blend, root, t, v, z0, z1)
+    let s = state::<W>(rho0, rho1);
+    pair.conditions(s.v, s.z0, s.z1)
 }
 
 pub fn criticality_conditions_t(blend: Blend, temperature: f64, rho0: f64, rho1: f64) -> Criticality
     ensures { result ≡ criticality_conditions_t blend temperature rho0 rho1 }
 {
-    let t = jet::number(temperature);
-    let root = ak_roots(12, blend, t);
-    let c = conditions(
-        12,
-        blend,
-        root,
-        t,
-        jet::marked(4, rho0),
-        jet::marked(8, rho1),
-    );
-    criticality(c)
+    let pair = TwoComponents::<12>::at(blend, number(temperature));
+    criticality(conditions(&pair, marked(4, rho0), marked(8, rho1)))
 }
 
 // The condition of the pressure: what it is less what it comes to.
-fn pressure_condition(
-    w: usize,
-    blend: Blend,
-    root: PairRoots,
+fn pressure_condition<const W: usize>(
+    pair: &TwoComponents<W>,
     pressure: f64,
-    t: Jet,
     rho0: Jet,
     rho1: Jet,
 ) -> Jet
-    requires { Width w × AkRoots w (aks_of blend t.c) root }
-    ensures { Upto w result.c (pressure_condition blend pressure t.c rho0.c rho1.c) }
+    ensures { Upto W result.c (pressure_condition pair.now.blend pressure pair.now.t.c rho0.c rho1.c) }
 {
-    let s = state(w, rho0, rho1);
-    let density = s.density;
-    let v = s.v;
-    let z0 = s.z0;
-    let z1 = s.z1;
-    let a = helmholtz_of_two(w, blend, root, t, jet::with_mark(1, v), z0, z1);
+    let s = state::<W>(rho0, rho1);
+    let v = jet::with_mark(1, s.v);
+    let a = helmholtz_of_two::<W>(pair.blend, pair.root, pair.t, v, s.z0, s.z1);
     let da = jet::derivative(1, a);
-    let p_calc = jet_gradient::add(w, jet::neg(da), jet_gradient::mul(w, density, t));
-    jet_gradient::add(w, jet::neg(p_calc), jet::number(pressure))
+    let p_calc = add::<W>(jet::neg(da), mul::<W>(s.density, pair.t));
+    add::<W>(jet::neg(p_calc), number(pressure))
 }
 
 // A condition with its derivatives by e1, e2 and e3.
@@ -109,17 +81,14 @@ pub fn criticality_conditions_p(
 ) -> PressureCriticality
     ensures { result ≡ criticality_conditions_p blend pressure temperature rho0 rho1 }
 {
-    let t = jet::marked(4, temperature);
-    let r0 = jet::marked(8, rho0);
-    let r1 = jet::marked(16, rho1);
-    let root = ak_roots(20, blend, t);
-    let c = conditions(20, blend, root, t, r0, r1);
-    let l = c.l;
-    let c2 = c.c2;
-    let p = pressure_condition(20, blend, root, pressure, t, r0, r1);
+    let r0 = marked(8, rho0);
+    let r1 = marked(16, rho1);
+    let pair = TwoComponents::<20>::at(blend, marked(4, temperature));
+    let c = conditions(&pair, r0, r1);
+    let p = pressure_condition(&pair, pressure, r0, r1);
     PressureCriticality {
-        l: condition(l),
-        c2: condition(c2),
+        l: condition(c.l),
+        c2: condition(c.c2),
         p: condition(p),
     }
 }

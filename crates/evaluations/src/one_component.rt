@@ -11,31 +11,14 @@ ghost use Rattle.evaluations.specs.Critical.{energy_over_t, along, eigenvalue, m
 use crate::mole_numbers::{entry, ideal_gas, moved};
 use crate::types::ConditionJets;
 use eos::Blend;
-use eos::helmholtz_12::helmholtz_of_one;
-use jet::Jet;
+use eos::helmholtz::helmholtz_of_one;
+use jet::{Jet, marked, number};
+use jet_gradient::{add, div, sqrt};
 
 fn energy_over_t(blend: Blend, t: Jet, v: Jet, n: Jet) -> Jet
     ensures { Upto 12 result.c (energy_over_t blend 1 t.c v.c (λ i. n.c)) }
 {
-    jet_gradient::div_12(helmholtz_of_one(blend, t, v, n), t)
-}
-
-// The energy over t with the mole number marked.
-pub fn marked_energy(blend: Blend, t: Jet, v: Jet) -> Jet
-    ensures { Upto 12 result.c (energy_over_t blend 1 t.c v.c (along (fractions_of blend) (eqb 0))) }
-{
-    let x = blend.x;
-    energy_over_t(blend, t, v, jet::marked(1, x[0]))
-}
-
-// The smallest eigenvalue of M, its only entry. e is the energy over t with the mole number marked, here and below.
-pub fn smallest(blend: Blend, t: Jet, v: Jet, e: Jet) -> Jet
-    requires { Upto 12 e.c (energy_over_t blend 1 t.c v.c (along (fractions_of blend) (eqb 0))) }
-    ensures { Upto 12 result.c (eigenvalue blend 1 t.c v.c (fractions_of blend)) }
-{
-    let x = blend.x;
-    let s = jet_gradient::sqrt_12(jet::number(x[0]));
-    entry(12, jet::derivative(2, e), s, s, 1.0)
+    div::<12>(helmholtz_of_one::<12>(blend, t, v, n), t)
 }
 
 // A mole number of 1, which moves by its own mark: the moved and the marked one are then the same jet.
@@ -50,39 +33,66 @@ fn moved_along_one(z: f64) -> Jet
     ensures { Upto 12 result.c (moved_of (number_of z) (number_of f1)) }
 {
     if is_one(z) {
-        return jet::marked(1, z);
+        return marked(1, z);
     }
-    moved(12, jet::number(z), jet::number(1.0))
+    moved::<12>(number(z), number(1.0))
 }
 
-// The energy at the moved mole number n, which is e where that is the marked one.
-fn moved_energy(blend: Blend, t: Jet, v: Jet, n: Jet, e: Jet) -> Jet
-    requires { Upto 12 n.c (moved_of (number_of (nth blend.x 0)) (number_of f1)) × Upto 12 e.c (energy_over_t blend 1 t.c v.c (along (fractions_of blend) (eqb 0))) }
-    ensures { Upto 12 result.c (energy_over_t blend 1 t.c v.c (λ i. n.c)) }
-{
-    let x = blend.x;
-    if is_one(x[0]) {
-        return e;
+// One component at the temperature t and the molar volume v, with its energy over t at the marked mole number.
+#[derive(Drop)]
+pub struct OneComponent {
+    pub blend: Blend,
+    pub t: Jet,
+    pub v: Jet,
+    pub energy: Jet,
+    pub ghost marked: { Upto 12 energy.c (energy_over_t blend 1 t.c v.c (along (fractions_of blend) (eqb 0))) },
+}
+
+impl OneComponent {
+    pub fn at(blend: Blend, t: Jet, v: Jet) -> Self
+        ensures { (result.blend ≡ blend) × (result.t ≡ t) × (result.v ≡ v) }
+    {
+        OneComponent {
+            blend,
+            t,
+            v,
+            energy: energy_over_t(blend, t, v, marked(1, blend.x[0])),
+        }
     }
-    energy_over_t(blend, t, v, n)
-}
 
-fn third_derivative(blend: Blend, t: Jet, v: Jet, e: Jet) -> Jet
-    requires { Upto 12 e.c (energy_over_t blend 1 t.c v.c (along (fractions_of blend) (eqb 0))) }
-    ensures { Upto 12 result.c (third_derivative blend 1 t.c v.c (fractions_of blend)) }
-{
-    let x = blend.x;
-    let n = moved_along_one(x[0]);
-    let a = moved_energy(blend, t, v, n, e);
-    jet::derivative(3, jet_gradient::add(12, a, ideal_gas(12, n, v)))
-}
+    // The smallest eigenvalue of M, its only entry.
+    pub fn smallest(&self) -> Jet
+        ensures { Upto 12 result.c (eigenvalue self.now.blend 1 self.now.t.c self.now.v.c (fractions_of self.now.blend)) }
+    {
+        let s = sqrt::<12>(number(self.blend.x[0]));
+        entry::<12>(jet::derivative(2, self.energy), s, s, 1.0)
+    }
 
-pub fn conditions(blend: Blend, t: Jet, v: Jet) -> ConditionJets
-    ensures { Upto 12 result.l.c (eigenvalue blend 1 t.c v.c (fractions_of blend)) × Upto 12 result.c2.c (third_derivative blend 1 t.c v.c (fractions_of blend)) }
-{
-    let e = marked_energy(blend, t, v);
-    ConditionJets {
-        l: smallest(blend, t, v, e),
-        c2: third_derivative(blend, t, v, e),
+    // The energy over t at the moved mole number n.
+    fn moved_energy(&self, n: Jet) -> Jet
+        requires { Upto 12 n.c (moved_of (number_of (nth self.now.blend.x 0)) (number_of f1)) }
+        ensures { Upto 12 result.c (energy_over_t self.now.blend 1 self.now.t.c self.now.v.c (λ i. n.c)) }
+    {
+        if is_one(self.blend.x[0]) {
+            return self.energy;
+        }
+        energy_over_t(self.blend, self.t, self.v, n)
+    }
+
+    fn third_derivative(&self) -> Jet
+        ensures { Upto 12 result.c (third_derivative self.now.blend 1 self.now.t.c self.now.v.c (fractions_of self.now.blend)) }
+    {
+        let n = moved_along_one(self.blend.x[0]);
+        let a = self.moved_energy(n);
+        jet::derivative(3, add::<12>(a, ideal_gas::<12>(n, self.v)))
+    }
+
+    pub fn conditions(&self) -> ConditionJets
+        ensures { Upto 12 result.l.c (eigenvalue self.now.blend 1 self.now.t.c self.now.v.c (fractions_of self.now.blend)) × Upto 12 result.c2.c (third_derivative self.now.blend 1 self.now.t.c self.now.v.c (fractions_of self.now.blend)) }
+    {
+        ConditionJets {
+            l: self.smallest(),
+            c2: self.third_derivative(),
+        }
     }
 }

@@ -4,7 +4,7 @@ ghost use Rattle.jet.specs.Coefficients.{Upto};
 ghost use Rattle.evaluations.specs.Residual.{along_volume, pressure_from, slope_from, curvature_from, p_dpdrho, p_dpdrho_d2pdrho2, chemical_potential};
 
 use crate::types::Pressure;
-use eos::helmholtz_4::helmholtz;
+use eos::helmholtz::helmholtz;
 use eos::{Blend, components};
 use jet::Jet;
 
@@ -34,29 +34,24 @@ fn curvature_from(v: f64, a: &[f64; 32]) -> f64
     -v * v * v * (2.0 * a[2] * 2.0 + v * (6.0 * a[3]))
 }
 
-pub fn p_dpdrho(blend: Blend, temperature: f64, density: f64) -> Pressure
-    ensures { result ≡ p_dpdrho blend temperature density }
-{
-    let v = 1.0 / density;
-    let jet = along_volume(blend, temperature, v);
-    let a = jet.c;
-    Pressure {
-        p: pressure_from(temperature, density, &a),
-        dp_drho: slope_from(temperature, v, &a),
-        d2p_drho2: 0.0,
-    }
-}
-
 pub fn p_dpdrho_d2pdrho2(blend: Blend, temperature: f64, density: f64) -> Pressure
     ensures { result ≡ p_dpdrho_d2pdrho2 blend temperature density }
 {
     let v = 1.0 / density;
-    let jet = along_volume(blend, temperature, v);
-    let a = jet.c;
+    let a = along_volume(blend, temperature, v).c;
     Pressure {
         p: pressure_from(temperature, density, &a),
         dp_drho: slope_from(temperature, v, &a),
         d2p_drho2: curvature_from(v, &a),
+    }
+}
+
+pub fn p_dpdrho(blend: Blend, temperature: f64, density: f64) -> Pressure
+    ensures { result ≡ p_dpdrho blend temperature density }
+{
+    Pressure {
+        d2p_drho2: 0.0,
+        ..p_dpdrho_d2pdrho2(blend, temperature, density)
     }
 }
 
@@ -65,7 +60,6 @@ pub fn chemical_potential(blend: Blend, temperature: f64, density: f64) -> f64
     ensures { result ≡ chemical_potential blend temperature density }
 {
     let v = 1.0 / density;
-    let jet = along_volume(blend, temperature, v);
-    let a = jet.c;
+    let a = along_volume(blend, temperature, v).c;
     a[0] - 1.0 * a[1] * v + temperature * float::ln(density)
 }

@@ -184,6 +184,13 @@ module _ (x : List Float) where
   logarithm_from {m} k l u g e = e ∙ ap (logarithm_beside (four_at x 0) (four_at x m)) g ∙ sym (log_beside x k)
 
 -- the jet of the coefficients below w
+whole_4 : (p : List Float) (u v z : Four) → Upto 4 (joined_of (four_at p 0) u v z) p
+unfolding upto first_order joined_of four_at
+whole_4 p u v z = refl
+
+pub no_mark : (p r : List Float) (l u v z : Four) → l ≡ four_at p 0 → r ≡ joined_of l u v z → Upto 4 r p
+no_mark p r l u v z el e = is 4 (rw (e, el)) ∙ whole_4 p u v z
+
 whole_12 : (p : List Float) (z : Four) → Upto 12 (joined_of (four_at p 0) (four_at p 4) (four_at p 8) z) p
 unfolding upto first_order joined_of four_at
 whole_12 p z = refl

@@ -1,12 +1,12 @@
-// The coefficients of first order in e1, e2 and e3 at positions below w, at most 20: those along e0, and those along e0 beside e1 (4 to 7), e2 (8 to 11) or e3 (16 to 19),
-// without a loop or a table. The evaluations of critical points and of stability need no others, and those beside e3 only where three unknowns are marked. The first four are
-// `jet`'s; beside a mark the same four terms stand for each mark.
+// The coefficients of first order in e1, e2 and e3 at positions below W: up to 20 without a loop or a table, those along e0 and those along e0 beside e1 (4 to 7), e2 (8 to 11)
+// or e3 (16 to 19). The evaluations need no others: four along the density, twelve where two unknowns are marked, twenty where three are. The first four are `jet`'s; beside a
+// mark the same four terms stand for each mark.
 #![tactic(auto)]
 
 ghost use Rattle.std.specs.Prelude.{◌≡◌, ◌≤◌};
 ghost use Rattle.float.specs.Root.{root};
 ghost use Rattle.jet.specs.Coefficients.{at, Upto, sum_of, difference_of, product_of, quotient_of, root_of, logarithm_of};
-ghost use Rattle.jet_gradient.specs.Beside.{four_at, no_four, joined_of, sum_beside, difference_beside, product_beside, quotient_beside, root_beside, logarithm_beside};
+ghost use Rattle.jet_gradient.specs.Beside.{four_at, joined_of, sum_beside, difference_beside, product_beside, quotient_beside, root_beside, logarithm_beside};
 
 use jet::Jet;
 
@@ -19,27 +19,25 @@ struct Four {
     c3: f64,
 }
 
-// The four of a from position i.
-fn four_at(a: Jet, i: usize) -> Four
-    requires { i ≤ 28 }
-    ensures { result ≡ four_at a.c i }
-{
-    Four {
-        c0: a.c[i],
-        c1: a.c[i + 1],
-        c2: a.c[i + 2],
-        c3: a.c[i + 3],
-    }
-}
+const NO_FOUR: Four = Four {
+    c0: 0.0,
+    c1: 0.0,
+    c2: 0.0,
+    c3: 0.0,
+};
 
-fn no_four() -> Four
-    ensures { result ≡ no_four }
-{
-    Four {
-        c0: 0.0,
-        c1: 0.0,
-        c2: 0.0,
-        c3: 0.0,
+impl Four {
+    // The four of a from position i.
+    fn at(a: Jet, i: usize) -> Four
+        requires { i ≤ 28 }
+        ensures { result ≡ four_at a.c i }
+    {
+        Four {
+            c0: a.c[i],
+            c1: a.c[i + 1],
+            c2: a.c[i + 2],
+            c3: a.c[i + 3],
+        }
     }
 }
 
@@ -67,10 +65,13 @@ fn joined(l: Four, u: Four, v: Four, z: Four) -> Jet
     Jet { c }
 }
 
-// The sum's four, and the difference's.
-fn sum_beside(x: Four, y: Four) -> Four
-    ensures { result ≡ sum_beside x y }
+// The sum's four from position m, and the difference's.
+fn sum_from(a: Jet, b: Jet, m: usize) -> Four
+    requires { m ≤ 28 }
+    ensures { result ≡ sum_beside (four_at a.c m) (four_at b.c m) }
 {
+    let x = Four::at(a, m);
+    let y = Four::at(b, m);
     Four {
         c0: x.c0 + y.c0,
         c1: x.c1 + y.c1,
@@ -79,9 +80,12 @@ fn sum_beside(x: Four, y: Four) -> Four
     }
 }
 
-fn difference_beside(x: Four, y: Four) -> Four
-    ensures { result ≡ difference_beside x y }
+fn difference_from(a: Jet, b: Jet, m: usize) -> Four
+    requires { m ≤ 28 }
+    ensures { result ≡ difference_beside (four_at a.c m) (four_at b.c m) }
 {
+    let x = Four::at(a, m);
+    let y = Four::at(b, m);
     Four {
         c0: x.c0 - y.c0,
         c1: x.c1 - y.c1,
@@ -90,10 +94,15 @@ fn difference_beside(x: Four, y: Four) -> Four
     }
 }
 
-// The product's four beside a mark: of x and y, which have u and w beside it.
-fn product_beside(x: Four, u: Four, y: Four, w: Four) -> Four
-    ensures { result ≡ product_beside x u y w }
+// The product's four beside the mark at position m.
+fn product_from(a: Jet, b: Jet, m: usize) -> Four
+    requires { m ≤ 28 }
+    ensures { result ≡ product_beside (four_at a.c 0) (four_at a.c m) (four_at b.c 0) (four_at b.c m) }
 {
+    let x = Four::at(a, 0);
+    let u = Four::at(a, m);
+    let y = Four::at(b, 0);
+    let w = Four::at(b, m);
     Four {
         c0: x.c0 * w.c0 + u.c0 * y.c0,
         c1: x.c0 * w.c1 + x.c1 * w.c0 + u.c0 * y.c1 + u.c1 * y.c0,
@@ -109,10 +118,14 @@ fn product_beside(x: Four, u: Four, y: Four, w: Four) -> Four
     }
 }
 
-// The quotient's four beside a mark, where it is q along e0, of u by w beside the mark and y along e0.
-fn quotient_beside(u: Four, q: Four, y: Four, w: Four) -> Four
-    ensures { result ≡ quotient_beside u q y w }
+// The quotient's four beside the mark at position m, where it is q along e0.
+fn quotient_from(a: Jet, q: Four, b: Jet, m: usize) -> Four
+    requires { m ≤ 28 }
+    ensures { result ≡ quotient_beside (four_at a.c m) q (four_at b.c 0) (four_at b.c m) }
 {
+    let u = Four::at(a, m);
+    let y = Four::at(b, 0);
+    let w = Four::at(b, m);
     let c0 = (u.c0 - q.c0 * w.c0) / y.c0;
     let c1 = (u.c1 - q.c0 * w.c1 - q.c1 * w.c0 - c0 * y.c1) / y.c0;
     let c2 = (u.c2 - q.c0 * w.c2 - q.c1 * w.c1 - q.c2 * w.c0 - c0 * y.c2 - c1 * y.c1) / y.c0;
@@ -128,10 +141,12 @@ fn quotient_beside(u: Four, q: Four, y: Four, w: Four) -> Four
     Four { c0, c1, c2, c3 }
 }
 
-// The root's four beside a mark, where it is r along e0.
-fn root_beside(u: Four, r: Four) -> Four
-    ensures { result ≡ root_beside u r }
+// The root's four beside the mark at position m, where it is r along e0.
+fn root_from(a: Jet, r: Four, m: usize) -> Four
+    requires { m ≤ 28 }
+    ensures { result ≡ root_beside (four_at a.c m) r }
 {
+    let u = Four::at(a, m);
     let d = 2.0 * r.c0;
     let c0 = u.c0 / d;
     let c1 = (u.c1 - r.c1 * c0 - c0 * r.c1) / d;
@@ -140,10 +155,13 @@ fn root_beside(u: Four, r: Four) -> Four
     Four { c0, c1, c2, c3 }
 }
 
-// The logarithm's four beside a mark, where it is l along e0. The weights are 1 to 3 along e0, and 1 to 4 beside the mark.
-fn logarithm_beside(x: Four, u: Four, l: Four) -> Four
-    ensures { result ≡ logarithm_beside x u l }
+// The logarithm's four beside the mark at position m, where it is l along e0. The weights are 1 to 3 along e0, and 1 to 4 beside the mark.
+fn logarithm_from(a: Jet, l: Four, m: usize) -> Four
+    requires { m ≤ 28 }
+    ensures { result ≡ logarithm_beside (four_at a.c 0) (four_at a.c m) l }
 {
+    let x = Four::at(a, 0);
+    let u = Four::at(a, m);
     let c0 = 1.0 * u.c0 / (1.0 * x.c0);
     let c1 = (2.0 * u.c1 - 1.0 * l.c1 * u.c0 - 1.0 * c0 * x.c1) / (2.0 * x.c0);
     let c2 = (3.0 * u.c2
@@ -163,173 +181,123 @@ fn logarithm_beside(x: Four, u: Four, l: Four) -> Four
     Four { c0, c1, c2, c3 }
 }
 
-// The four of each from position m, which is 0 or a mark's in a sum and a difference, and a mark's in the others.
-fn sum_from(a: Jet, b: Jet, m: usize) -> Four
-    requires { m ≤ 28 }
-    ensures { result ≡ sum_beside (four_at a.c m) (four_at b.c m) }
+// W is a constant, so that no test of it is left where a function is used.
+pub fn add<const W: usize>(a: Jet, b: Jet) -> Jet
+    ensures { Upto W result.c (sum_of a.c b.c) }
 {
-    sum_beside(four_at(a, m), four_at(b, m))
+    if W > 20 {
+        return jet::add(a, b);
+    }
+    let l = sum_from(a, b, 0);
+    if W <= 4 {
+        return joined(l, NO_FOUR, NO_FOUR, NO_FOUR);
+    }
+    let u = sum_from(a, b, 4);
+    let v = sum_from(a, b, 8);
+    if W <= 12 {
+        return joined(l, u, v, NO_FOUR);
+    }
+    joined(l, u, v, sum_from(a, b, 16))
 }
 
-fn difference_from(a: Jet, b: Jet, m: usize) -> Four
-    requires { m ≤ 28 }
-    ensures { result ≡ difference_beside (four_at a.c m) (four_at b.c m) }
+pub fn sub<const W: usize>(a: Jet, b: Jet) -> Jet
+    ensures { Upto W result.c (difference_of a.c b.c) }
 {
-    difference_beside(four_at(a, m), four_at(b, m))
+    if W > 20 {
+        return jet::sub(a, b);
+    }
+    let l = difference_from(a, b, 0);
+    if W <= 4 {
+        return joined(l, NO_FOUR, NO_FOUR, NO_FOUR);
+    }
+    let u = difference_from(a, b, 4);
+    let v = difference_from(a, b, 8);
+    if W <= 12 {
+        return joined(l, u, v, NO_FOUR);
+    }
+    joined(l, u, v, difference_from(a, b, 16))
 }
 
-fn product_from(a: Jet, b: Jet, m: usize) -> Four
-    requires { m ≤ 28 }
-    ensures { result ≡ product_beside (four_at a.c 0) (four_at a.c m) (four_at b.c 0) (four_at b.c m) }
+pub fn mul<const W: usize>(a: Jet, b: Jet) -> Jet
+    ensures { Upto W result.c (product_of a.c b.c) }
 {
-    product_beside(four_at(a, 0), four_at(a, m), four_at(b, 0), four_at(b, m))
-}
-
-fn quotient_from(a: Jet, q: Four, b: Jet, m: usize) -> Four
-    requires { m ≤ 28 }
-    ensures { result ≡ quotient_beside (four_at a.c m) q (four_at b.c 0) (four_at b.c m) }
-{
-    quotient_beside(four_at(a, m), q, four_at(b, 0), four_at(b, m))
-}
-
-fn root_from(a: Jet, r: Four, m: usize) -> Four
-    requires { m ≤ 28 }
-    ensures { result ≡ root_beside (four_at a.c m) r }
-{
-    root_beside(four_at(a, m), r)
-}
-
-fn logarithm_from(a: Jet, l: Four, m: usize) -> Four
-    requires { m ≤ 28 }
-    ensures { result ≡ logarithm_beside (four_at a.c 0) (four_at a.c m) l }
-{
-    logarithm_beside(four_at(a, 0), four_at(a, m), l)
-}
-
-// A sum and a difference take those beside e3 along for every w: four additions cost less than a test.
-pub fn add(w: usize, a: Jet, b: Jet) -> Jet
-    requires { w ≤ 20 }
-    ensures { Upto w result.c (sum_of a.c b.c) }
-{
-    joined(
-        sum_from(a, b, 0),
-        sum_from(a, b, 4),
-        sum_from(a, b, 8),
-        sum_from(a, b, 16),
-    )
-}
-
-pub fn sub(w: usize, a: Jet, b: Jet) -> Jet
-    requires { w ≤ 20 }
-    ensures { Upto w result.c (difference_of a.c b.c) }
-{
-    joined(
-        difference_from(a, b, 0),
-        difference_from(a, b, 4),
-        difference_from(a, b, 8),
-        difference_from(a, b, 16),
-    )
-}
-
-// The others have a form for two marks alone, without the test.
-pub fn mul_12(a: Jet, b: Jet) -> Jet
-    ensures { Upto 12 result.c (product_of a.c b.c) }
-{
+    if W > 20 {
+        return jet::mul(a, b);
+    }
+    let low = jet::mul_4(a, b);
+    if W <= 4 {
+        return low;
+    }
+    let l = Four::at(low, 0);
     let u = product_from(a, b, 4);
     let v = product_from(a, b, 8);
-    joined(four_at(jet::mul_4(a, b), 0), u, v, no_four())
-}
-
-pub fn mul(w: usize, a: Jet, b: Jet) -> Jet
-    requires { w ≤ 20 }
-    ensures { Upto w result.c (product_of a.c b.c) }
-{
-    let l = four_at(jet::mul_4(a, b), 0);
-    let u = product_from(a, b, 4);
-    let v = product_from(a, b, 8);
-    if w <= 12 {
-        return joined(l, u, v, no_four());
+    if W <= 12 {
+        return joined(l, u, v, NO_FOUR);
     }
     joined(l, u, v, product_from(a, b, 16))
 }
 
-pub fn div_12(a: Jet, b: Jet) -> Jet
-    ensures { Upto 12 result.c (quotient_of a.c b.c) }
+pub fn div<const W: usize>(a: Jet, b: Jet) -> Jet
+    ensures { Upto W result.c (quotient_of a.c b.c) }
 {
-    let q = four_at(jet::div_4(a, b), 0);
+    if W > 20 {
+        return jet::div(a, b);
+    }
+    let low = jet::div_4(a, b);
+    if W <= 4 {
+        return low;
+    }
+    let q = Four::at(low, 0);
     let u = quotient_from(a, q, b, 4);
     let v = quotient_from(a, q, b, 8);
-    joined(q, u, v, no_four())
-}
-
-pub fn div(w: usize, a: Jet, b: Jet) -> Jet
-    requires { w ≤ 20 }
-    ensures { Upto w result.c (quotient_of a.c b.c) }
-{
-    let q = four_at(jet::div_4(a, b), 0);
-    let u = quotient_from(a, q, b, 4);
-    let v = quotient_from(a, q, b, 8);
-    if w <= 12 {
-        return joined(q, u, v, no_four());
+    if W <= 12 {
+        return joined(q, u, v, NO_FOUR);
     }
     joined(q, u, v, quotient_from(a, q, b, 16))
 }
 
-pub fn sqrt_12_from(r0: f64, a: Jet) -> Jet
-    requires { r0 ≡ root (at a.c 0) }
-    ensures { Upto 12 result.c (root_of a.c) }
-{
-    let r = four_at(jet::sqrt_4_from(r0, a), 0);
-    let u = root_from(a, r, 4);
-    let v = root_from(a, r, 8);
-    joined(r, u, v, no_four())
-}
-
 // The root of a, from the root r0 of its first coefficient.
-pub fn sqrt_from(w: usize, r0: f64, a: Jet) -> Jet
-    requires { (w ≤ 20) × (r0 ≡ root (at a.c 0)) }
-    ensures { Upto w result.c (root_of a.c) }
+pub fn sqrt_from<const W: usize>(r0: f64, a: Jet) -> Jet
+    requires { r0 ≡ root (at a.c 0) }
+    ensures { Upto W result.c (root_of a.c) }
 {
-    let r = four_at(jet::sqrt_4_from(r0, a), 0);
+    if W > 20 {
+        return jet::sqrt(a);
+    }
+    let low = jet::sqrt_4_from(r0, a);
+    if W <= 4 {
+        return low;
+    }
+    let r = Four::at(low, 0);
     let u = root_from(a, r, 4);
     let v = root_from(a, r, 8);
-    if w <= 12 {
-        return joined(r, u, v, no_four());
+    if W <= 12 {
+        return joined(r, u, v, NO_FOUR);
     }
     joined(r, u, v, root_from(a, r, 16))
 }
 
-pub fn sqrt_12(a: Jet) -> Jet
-    ensures { Upto 12 result.c (root_of a.c) }
+pub fn sqrt<const W: usize>(a: Jet) -> Jet
+    ensures { Upto W result.c (root_of a.c) }
 {
-    sqrt_12_from(float::sqrt(a.c[0]), a)
+    sqrt_from::<W>(float::sqrt(a.c[0]), a)
 }
 
-pub fn sqrt(w: usize, a: Jet) -> Jet
-    requires { w ≤ 20 }
-    ensures { Upto w result.c (root_of a.c) }
+pub fn ln<const W: usize>(a: Jet) -> Jet
+    ensures { Upto W result.c (logarithm_of a.c) }
 {
-    sqrt_from(w, float::sqrt(a.c[0]), a)
-}
-
-pub fn ln_12(a: Jet) -> Jet
-    ensures { Upto 12 result.c (logarithm_of a.c) }
-{
-    let l = four_at(jet::ln_4(a), 0);
+    if W > 20 {
+        return jet::ln(a);
+    }
+    let low = jet::ln_4(a);
+    if W <= 4 {
+        return low;
+    }
+    let l = Four::at(low, 0);
     let u = logarithm_from(a, l, 4);
     let v = logarithm_from(a, l, 8);
-    joined(l, u, v, no_four())
-}
-
-pub fn ln(w: usize, a: Jet) -> Jet
-    requires { w ≤ 20 }
-    ensures { Upto w result.c (logarithm_of a.c) }
-{
-    let l = four_at(jet::ln_4(a), 0);
-    let u = logarithm_from(a, l, 4);
-    let v = logarithm_from(a, l, 8);
-    if w <= 12 {
-        return joined(l, u, v, no_four());
+    if W <= 12 {
+        return joined(l, u, v, NO_FOUR);
     }
     joined(l, u, v, logarithm_from(a, l, 16))
 }

@@ -1,18 +1,25 @@
 -- `jet_gradient::div`.
-use Rattle.jet.proofs.Prefix.{fewer}
+use Rattle.jet.proofs.Prefix.{is, fewer, div_along}
 use Rattle.jet_gradient.proofs.Marks.{e1, e2, e3, quotient_along, quotient_from, two_marks, three_marks}
 use Rattle.jet_gradient.proofs.div.Goals as goal
 
-pub returns-then-w-le12 : goal.returns-then-w-le12
-returns-then-w-le12 c =
+pub returns-then-this-gt20 : goal.returns-then-this-gt20
+returns-then-this-gt20 g c = is g.row.W c.div.ensures
+
+pub returns-then-this-le4 : goal.returns-then-this-le4
+returns-then-this-le4 g c =
+    fewer g.row.W 4 _ _ c.if-this-le4.true (div_along _ _ _ c.div_4-low.ensures)
+
+pub returns-then-this-le12 : goal.returns-then-this-le12
+returns-then-this-le12 g c =
     let a = c.args.a.c in
     let b = c.args.b.c in
-    let l = quotient_along a b _ _ c.div_4.ensures c.four_at-q.ensures in
-    fewer c.args.w 12 _ _ c.if-w-le12.true (two_marks _ _ _ _ _ _ l (quotient_from a b e1 _ _ l c.quotient_from-u.ensures) (quotient_from a b e2 _ _ l c.quotient_from-v.ensures) c.joined.ensures)
+    let l = quotient_along a b _ _ c.div_4-low.ensures c.at-q.ensures in
+    fewer g.row.W 12 _ _ c.if-this-le12.true (two_marks _ _ _ _ _ _ l (quotient_from a b e1 _ _ l c.quotient_from-u.ensures) (quotient_from a b e2 _ _ l c.quotient_from-v.ensures) c.joined.ensures)
 
 pub returns : goal.returns
-returns c =
+returns g c =
     let a = c.args.a.c in
     let b = c.args.b.c in
-    let l = quotient_along a b _ _ c.div_4.ensures c.four_at-q.ensures in
-    fewer c.args.w 20 _ _ c.requires (three_marks _ _ _ _ _ _ l (quotient_from a b e1 _ _ l c.quotient_from-u.ensures) (quotient_from a b e2 _ _ l c.quotient_from-v.ensures) c.joined-2.ensures (quotient_from a b e3 _ _ l c.quotient_from.ensures))
+    let l = quotient_along a b _ _ c.div_4-low.ensures c.at-q.ensures in
+    fewer g.row.W 20 _ _ c.if-this-gt20.false (three_marks _ _ _ _ _ _ l (quotient_from a b e1 _ _ l c.quotient_from-u.ensures) (quotient_from a b e2 _ _ l c.quotient_from-v.ensures) c.joined-2.ensures (quotient_from a b e3 _ _ l c.quotient_from.ensures))

@@ -7,7 +7,4 @@ use Rattle.eos.specs.Cubic.{nth}
 use Rattle.eos.proofs.cubic.dot.Given as goal
 
 abbrev pub invariant-loop-i : goal.invariant-loop-i
-invariant-loop-i l = (1 ≤ l.i) × (fold_from (λ s i. s ⊕ nth l.x i ⊗ nth l.y i) (l.n - l.i) l.i l.s ≡ total l.n (λ i. nth l.x i ⊗ nth l.y i))
-
-abbrev pub decreases-loop-i : goal.decreases-loop-i
-decreases-loop-i l = l.n - l.i
+invariant-loop-i l = fold_from (λ s i. s ⊕ nth l.x i ⊗ nth l.y i) (l.n - l.i) l.i l.s ≡ total l.n (λ i. nth l.x i ⊗ nth l.y i)

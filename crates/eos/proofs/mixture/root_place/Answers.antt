@@ -9,6 +9,6 @@ pub returns-then-j-i : goal.returns-then-j-i
 unfolding place_of
 returns-then-j-i c = rw (le-leb c.args.j c.args.i (omega arith)) (refl, omega arith)
 
-pub returns : goal.returns
+pub returns-else-j-i : goal.returns-else-j-i
 unfolding place_of
-returns c = rw (lt-leb c.args.j c.args.i (omega arith)) (refl, omega arith)
+returns-else-j-i c = rw (lt-leb c.args.j c.args.i (omega arith)) (refl, omega arith)

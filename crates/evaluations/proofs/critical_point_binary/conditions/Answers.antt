@@ -3,7 +3,8 @@ use Rattle.evaluations.proofs.CriticalLaws.{binary_eigenvalue_lem, binary_third_
 use Rattle.evaluations.proofs.critical_point_binary.conditions.Goals as goal
 
 pub returns : goal.returns
-returns c =
+returns g c =
     let a = c.args in
+    let s = a.pair.now in
     let q = c.state-s in
-    (binary_eigenvalue_lem a.w a.rho0.c a.rho1.c c.requires.0 a.blend a.t.c q.result q.ensures _ c.conditions.ensures.0, binary_third_lem a.w a.rho0.c a.rho1.c c.requires.0 a.blend a.t.c q.result q.ensures _ c.conditions.ensures.1)
+    (binary_eigenvalue_lem g.row.W a.rho0.c a.rho1.c s.width s.blend s.t.c q.result q.ensures _ c.conditions.ensures.0, binary_third_lem g.row.W a.rho0.c a.rho1.c s.width s.blend s.t.c q.result q.ensures _ c.conditions.ensures.1)

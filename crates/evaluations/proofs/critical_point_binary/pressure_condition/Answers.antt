@@ -2,11 +2,9 @@
 use Rattle.evaluations.proofs.CriticalLaws.{pressure_law}
 use Rattle.evaluations.proofs.critical_point_binary.pressure_condition.Goals as goal
 
-pub add-requires : goal.add-requires
-add-requires c = c.requires.0.most
-
 pub returns : goal.returns
-returns c =
+returns g c =
     let a = c.args in
+    let s = a.pair.now in
     let q = c.state-s in
-    pressure_law a.w a.rho0.c a.rho1.c c.requires.0 a.blend a.t.c q.result q.ensures a.pressure _ _ _ _ _ _ _ _ _ c.with_mark.ensures c.helmholtz_of_two-a.ensures c.derivative-da.ensures c.neg.ensures c.mul.ensures c.add-p_calc.ensures c.neg-2.ensures c.number.ensures c.add.ensures
+    pressure_law g.row.W a.rho0.c a.rho1.c s.width s.blend s.t.c q.result q.ensures a.pressure _ _ _ _ _ _ _ _ _ c.with_mark-v.ensures c.helmholtz_of_two-a.ensures c.derivative-da.ensures c.neg.ensures c.mul.ensures c.add-p_calc.ensures c.neg-2.ensures c.number.ensures c.add.ensures

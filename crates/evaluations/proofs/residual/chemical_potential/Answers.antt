@@ -5,4 +5,4 @@ use Rattle.evaluations.proofs.residual.chemical_potential.Goals as goal
 pub returns : goal.returns
 returns c =
     let a = c.args in
-    potential_law a.blend a.temperature a.density c.along_volume-jet.result.c c.along_volume-jet.ensures _ c.ln.ensures
+    potential_law a.blend a.temperature a.density c.along_volume.result.c c.along_volume.ensures _ c.ln.ensures

@@ -1,0 +1,12 @@
+-- `eos::mixture::densities`.
+use mathlib.Core.Path.{◌≡◌}
+use Prim.Native.Nat.{ℕ, ◌-◌, ◌≤◌, ◌<◌}
+use lib.ListN.{length}
+use Rattle.jet.specs.Coefficients.{Upto, number_of}
+use Rattle.jet.specs.Ops.{◌⧄◌}
+use Rattle.eos.specs.Jets.{jet_at}
+use Rattle.eos.specs.Cubic.{nth}
+use Rattle.eos.proofs.mixture.densities.Given as goal
+
+abbrev pub invariant-loop-i : goal.invariant-loop-i
+invariant-loop-i l = (length l.out ≡ 8) × ((k : ℕ) → k < l.i → Upto 4 (jet_at l.out k) (number_of (nth l.moles k) ⧄ l.v.c))

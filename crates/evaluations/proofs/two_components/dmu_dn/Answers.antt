@@ -1,8 +1,0 @@
--- `evaluations::two_components::dmu_dn`.
-use Rattle.evaluations.proofs.CriticalLaws.{dmu_law}
-use Rattle.evaluations.proofs.two_components.dmu_dn.Goals as goal
-
-pub returns : goal.returns
-returns c =
-    let a = c.args in
-    dmu_law a.w c.requires.0 a.blend a.t.c a.v.c a.z1.c a.z2.c _ _ _ c.second-h.result.c _ _ _ c.with_mark-n1.ensures c.with_mark-n2.ensures c.second-h11.ensures c.second-h22.ensures c.second-h.ensures c.sub.ensures c.sub-mixed.ensures c.number.ensures c.mul.ensures

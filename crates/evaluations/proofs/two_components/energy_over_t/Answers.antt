@@ -1,9 +1,0 @@
--- `evaluations::two_components::energy_over_t`.
-use Rattle.eos.specs.Jets.{pair_of}
-use Rattle.evaluations.proofs.CriticalLaws.{energy_law}
-use Rattle.evaluations.proofs.two_components.energy_over_t.Goals as goal
-
-pub returns : goal.returns
-returns c =
-    let a = c.args in
-    energy_law a.w a.blend a.t.c a.v.c 2 (pair_of a.n1.c a.n2.c) _ _ c.helmholtz_of_two.ensures c.div.ensures

@@ -1,8 +1,0 @@
--- `evaluations::two_components::third`.
-use Rattle.evaluations.proofs.CriticalLaws.{third_at_law}
-use Rattle.evaluations.proofs.two_components.third.Goals as goal
-
-pub returns : goal.returns
-returns c =
-    let a = c.args in
-    third_at_law a.w c.requires.0 a.blend a.t.c a.v.c a.n1.c a.n2.c _ _ _ _ _ _ c.energy_over_t-a.ensures c.ideal_gas.ensures c.ideal_gas-2.ensures c.add-ig.ensures c.add.ensures c.derivative.ensures
