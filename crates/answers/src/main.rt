@@ -34,6 +34,7 @@ fn print_reply(rt: &impl Print, request: &[u8]) -> io::Result<()>
     io::writer(rt).write_all(&out[..end])
 }
 
+// A loop has to end, and nothing says that the input does: no run uses up this count.
 fn main(rt: HostRuntime) -> io::Result<()> {
     let mut input = BufReader::new(rt.alloc(), rt.reader())?;
     let mut request = Vec::new(rt.alloc());

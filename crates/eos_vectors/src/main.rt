@@ -190,7 +190,8 @@ fn print_evaluation(
     }
 }
 
-// Runs evaluations until one is cut off (the unexpected end of the input), or its two bytes ask for none (invalid data).
+// Runs evaluations until one is cut off, an unexpected end, or its two bytes ask for none, invalid data. A loop has to end,
+// and no input uses up this count.
 fn run_all(input: &mut impl Read, out: &mut impl Write) -> io::Result<()> {
     for _ in 0..u64::MAX {
         let mut head = [0u8; 2];

@@ -4,9 +4,9 @@
 #![tactic(auto)]
 
 use std::io;
-use std::io::{BufReader, BufWriter, Read, Write};
+use std::io::{BufWriter, Read, Write};
 
-// The input is read up to here.
+// What the input has beyond these bytes is not read.
 const MOST_BYTES: u64 = 65536;
 
 // '0' to '9' and 'a' to 'f'. Not from_str_radix: each other byte has a value too.
@@ -47,9 +47,7 @@ fn print_selections(out: &mut impl Write, before: f64, x: f64) -> io::Result<()>
 
 fn main(rt: HostRuntime) -> io::Result<()> {
     let mut input = Vec::new(rt.alloc());
-    BufReader::new(rt.alloc(), rt.reader())?
-        .take(MOST_BYTES)
-        .read_to_end(&mut input)?;
+    rt.reader().take(MOST_BYTES).read_to_end(&mut input)?;
     let mut out = BufWriter::new(rt.alloc(), io::writer(&rt))?;
     let mut before = 0.0;
     for (i, line) in input.chunks_exact(17).enumerate() {

@@ -112,7 +112,7 @@ fn print_line(out: &mut impl Write, a: Jet) -> io::Result<()> {
     writeln!(out)
 }
 
-// Runs operations until one is cut off, which read_exact tells as the unexpected end.
+// Runs operations until one is cut off, an unexpected end. A loop has to end, and no input uses up this count.
 fn run_all(input: &mut impl Read, out: &mut impl Write) -> io::Result<()> {
     for _ in 0..u64::MAX {
         let operation = read_operation(input)?;
