@@ -1,4 +1,5 @@
 // The layers below a request that bench/ measures, under C's names and with the contracts of what they call. Users link `gateway`.
+// The names and parameters are bench/'s C interface, so a blend stays seven parameters in each eos_* function.
 #![tactic(auto)]
 
 ghost use Rattle.std.specs.Prelude.{◌≡◌};
@@ -11,6 +12,7 @@ ghost use Rattle.evaluations.specs.CriticalBinary.{criticality_conditions_t, cri
 ghost use Rattle.eos.specs.Cubic.{blend_by};
 ghost use Rattle.exports.specs.Rows.{pressure_row, criticality_row, pressure_criticality_row, stability_row};
 
+use evaluations::PressureCriticality;
 use jet::Jet;
 
 #[unsafe(no_mangle)]
@@ -31,12 +33,7 @@ pub extern "C" fn float_ln(x: f64) -> f64
 pub extern "C" fn jet_add(a: &[f64; 32], b: &[f64; 32], r: &mut [f64; 32])
     ensures { r.new ≡ sum_of a.now b.now }
 {
-    let c = *a;
-    let x = Jet { c };
-    let c = *b;
-    let y = Jet { c };
-    let z = jet::add(x, y);
-    let c = z.c;
+    let Jet { c } = jet::add(Jet { c: *a }, Jet { c: *b });
     *r = c;
 }
 
@@ -44,12 +41,7 @@ pub extern "C" fn jet_add(a: &[f64; 32], b: &[f64; 32], r: &mut [f64; 32])
 pub extern "C" fn jet_mul(a: &[f64; 32], b: &[f64; 32], r: &mut [f64; 32])
     ensures { r.new ≡ product_of a.now b.now }
 {
-    let c = *a;
-    let x = Jet { c };
-    let c = *b;
-    let y = Jet { c };
-    let z = jet::mul(x, y);
-    let c = z.c;
+    let Jet { c } = jet::mul(Jet { c: *a }, Jet { c: *b });
     *r = c;
 }
 
@@ -57,12 +49,7 @@ pub extern "C" fn jet_mul(a: &[f64; 32], b: &[f64; 32], r: &mut [f64; 32])
 pub extern "C" fn jet_div(a: &[f64; 32], b: &[f64; 32], r: &mut [f64; 32])
     ensures { r.new ≡ quotient_of a.now b.now }
 {
-    let c = *a;
-    let x = Jet { c };
-    let c = *b;
-    let y = Jet { c };
-    let z = jet::div(x, y);
-    let c = z.c;
+    let Jet { c } = jet::div(Jet { c: *a }, Jet { c: *b });
     *r = c;
 }
 
@@ -70,10 +57,7 @@ pub extern "C" fn jet_div(a: &[f64; 32], b: &[f64; 32], r: &mut [f64; 32])
 pub extern "C" fn jet_sqrt(a: &[f64; 32], r: &mut [f64; 32])
     ensures { r.new ≡ root_of a.now }
 {
-    let c = *a;
-    let x = Jet { c };
-    let z = jet::sqrt(x);
-    let c = z.c;
+    let Jet { c } = jet::sqrt(Jet { c: *a });
     *r = c;
 }
 
@@ -81,10 +65,7 @@ pub extern "C" fn jet_sqrt(a: &[f64; 32], r: &mut [f64; 32])
 pub extern "C" fn jet_ln(a: &[f64; 32], r: &mut [f64; 32])
     ensures { r.new ≡ logarithm_of a.now }
 {
-    let c = *a;
-    let x = Jet { c };
-    let z = jet::ln(x);
-    let c = z.c;
+    let Jet { c } = jet::ln(Jet { c: *a });
     *r = c;
 }
 
@@ -92,12 +73,7 @@ pub extern "C" fn jet_ln(a: &[f64; 32], r: &mut [f64; 32])
 pub extern "C" fn jet_mul_to(n: usize, a: &[f64; 32], b: &[f64; 32], r: &mut [f64; 32])
     ensures { r.new ≡ cut n (product_of a.now b.now) }
 {
-    let c = *a;
-    let x = Jet { c };
-    let c = *b;
-    let y = Jet { c };
-    let z = jet::mul_to(n, x, y);
-    let c = z.c;
+    let Jet { c } = jet::mul_to(n, Jet { c: *a }, Jet { c: *b });
     *r = c;
 }
 
@@ -105,12 +81,7 @@ pub extern "C" fn jet_mul_to(n: usize, a: &[f64; 32], b: &[f64; 32], r: &mut [f6
 pub extern "C" fn jet_div_to(n: usize, a: &[f64; 32], b: &[f64; 32], r: &mut [f64; 32])
     ensures { r.new ≡ cut n (quotient_of a.now b.now) }
 {
-    let c = *a;
-    let x = Jet { c };
-    let c = *b;
-    let y = Jet { c };
-    let z = jet::div_to(n, x, y);
-    let c = z.c;
+    let Jet { c } = jet::div_to(n, Jet { c: *a }, Jet { c: *b });
     *r = c;
 }
 
@@ -118,10 +89,7 @@ pub extern "C" fn jet_div_to(n: usize, a: &[f64; 32], b: &[f64; 32], r: &mut [f6
 pub extern "C" fn jet_sqrt_to(n: usize, a: &[f64; 32], r: &mut [f64; 32])
     ensures { r.new ≡ cut n (root_of a.now) }
 {
-    let c = *a;
-    let x = Jet { c };
-    let z = jet::sqrt_to(n, x);
-    let c = z.c;
+    let Jet { c } = jet::sqrt_to(n, Jet { c: *a });
     *r = c;
 }
 
@@ -129,10 +97,7 @@ pub extern "C" fn jet_sqrt_to(n: usize, a: &[f64; 32], r: &mut [f64; 32])
 pub extern "C" fn jet_ln_to(n: usize, a: &[f64; 32], r: &mut [f64; 32])
     ensures { r.new ≡ cut n (logarithm_of a.now) }
 {
-    let c = *a;
-    let x = Jet { c };
-    let z = jet::ln_to(n, x);
-    let c = z.c;
+    let Jet { c } = jet::ln_to(n, Jet { c: *a });
     *r = c;
 }
 
@@ -252,16 +217,13 @@ pub extern "C" fn eos_criticality_conditions_p(
 )
     ensures { r.new ≡ pressure_criticality_row (criticality_conditions_p (blend_by n tc.now a.now b.now kappa.now k_ij.now x.now) p t rho0 rho1) }
 {
-    let y = evaluations::criticality_conditions_p(
+    let PressureCriticality { l, c2, p: q } = evaluations::criticality_conditions_p(
         eos::blend(n, tc, a, b, kappa, k_ij, x),
         p,
         t,
         rho0,
         rho1,
     );
-    let l = y.l;
-    let c2 = y.c2;
-    let q = y.p;
     *r = [
         l.value, c2.value, q.value, l.d0, l.d1, l.d2, c2.d0, c2.d1, c2.d2, q.d0, q.d1, q.d2,
     ];

@@ -3,87 +3,61 @@
 // and min of the value of the line before and x, and 1 or 0 for a minus sign and for finite.
 #![tactic(auto)]
 
-ghost use Rattle.std.specs.Prelude.{◌+◌, ◌≤◌, ◌<◌, length};
+use std::io;
+use std::io::{BufWriter, Read, Write};
 
-const STDOUT_FILENO: i32 = 1;
+// What the input has beyond these bytes is not read.
+const MOST_BYTES: u64 = 65536;
 
-fn wide(c: u8) -> u64 {
-    c as u64
+// '0' to '9' and 'a' to 'f'. Not from_str_radix: each other byte has a value too.
+fn digit(c: u8) -> u64 {
+    let d = if c < b'a' { c } else { c % 16 + 9 };
+    u64::from(d % 16)
 }
 
-// '0' to '9' and 'a' to 'f'
-fn digit(c: u64) -> u64
-    ensures { result < 16 }
-{
-    if c < 97 { c % 16 } else { (c % 16 + 9) % 16 }
+// The value whose bit pattern the first 16 bytes of a line spell.
+fn value(line: &[u8]) -> f64 {
+    let digits = line.iter().take(16);
+    float::from_bits(digits.fold(0u64, |bits, c| bits << 4 | digit(*c)))
 }
 
-// The number that the 16 digits at index at spell.
-fn pattern(s: &[u8], at: usize) -> u64
-    requires { at + 16 ≤ length s.now }
-{
-    let mut b = 0u64;
-    let mut i: usize = 0;
-    while i < 16 {
-        b = b % 0x1000_0000_0000_0000 * 16 + digit(wide(s[at + i]));
-        i = i + 1;
+fn print_functions(out: &mut impl Write, x: f64) -> io::Result<()> {
+    let sqrt = float::to_bits(float::sqrt(x));
+    let ln = float::to_bits(float::ln(x));
+    write!(out, "{sqrt:016x} {ln:016x}")
+}
+
+fn print_selections(out: &mut impl Write, before: f64, x: f64) -> io::Result<()> {
+    for y in [
+        x,
+        float::abs(x),
+        float::signum(x),
+        float::max(before, x),
+        float::min(before, x),
+    ] {
+        write!(out, " {:016x}", float::to_bits(y))?;
     }
-    b
+    write!(
+        out,
+        " {} {}",
+        u8::from(float::is_negative(x)),
+        u8::from(float::is_finite(x))
+    )
 }
 
-fn print_bits(x: f64) {
-    io::print_hex(STDOUT_FILENO, float::to_bits(x), 16);
-}
-
-fn print_next(x: f64) {
-    io::write_all(STDOUT_FILENO, b" ");
-    print_bits(x);
-}
-
-fn print_test(t: bool) {
-    if t {
-        io::write_all(STDOUT_FILENO, b" 1");
-    } else {
-        io::write_all(STDOUT_FILENO, b" 0");
-    }
-}
-
-fn print_functions(x: f64) {
-    print_bits(float::sqrt(x));
-    print_next(float::ln(x));
-}
-
-fn print_selections(before: f64, x: f64) {
-    print_next(x);
-    print_next(float::abs(x));
-    print_next(float::signum(x));
-    print_next(float::max(before, x));
-    print_next(float::min(before, x));
-    print_test(float::is_negative(x));
-    print_test(float::is_finite(x));
-}
-
-fn print_line(before: f64, x: f64, is_long: bool) {
-    print_functions(x);
-    if is_long {
-        print_selections(before, x);
-    }
-    io::write_all(STDOUT_FILENO, b"\n");
-}
-
-fn print_lines(s: &[u8]) {
+fn main(rt: HostRuntime) -> io::Result<()> {
+    let mut input = Vec::new(rt.alloc());
+    rt.reader().take(MOST_BYTES).read_to_end(&mut input)?;
+    let mut out = BufWriter::new(rt.alloc(), io::writer(&rt))?;
     let mut before = 0.0;
-    let mut at: usize = 0;
-    while at + 17 <= s.len() {
-        let x = float::from_bits(pattern(s, at));
-        print_line(before, x, at < 17 * 256);
+    for (i, line) in input.chunks_exact(17).enumerate() {
+        let x = value(line);
+        print_functions(&mut out, x)?;
+        if i < 256 {
+            print_selections(&mut out, before, x)?;
+        }
+        writeln!(out)?;
         before = x;
-        at = at + 17;
     }
-}
-
-fn main() {
-    let mut buffer = io::large_buffer();
-    let n = io::read_full(0, &mut buffer);
-    print_lines(&buffer[..n]);
+    out.flush()
 }

@@ -3,120 +3,132 @@
 // README.md has the operation bytes.
 #![tactic(auto)]
 
-ghost use Rattle.std.specs.Prelude.{◌+◌, ◌≤◌, ◌<◌};
-
 use jet::Jet;
+use std::io;
+use std::io::{BufReader, BufWriter, ErrorKind, Read, Write};
 
-const STDOUT_FILENO: i32 = 1;
-
-fn wide(c: u8) -> u64
-    ensures { result < 256 }
-{
-    c as u64
+// What an operation byte asks for: a whole jet, a derivative by a mark, or the first coefficients.
+#[derive(Clone, Copy)]
+enum Operation {
+    Add,
+    Sub,
+    Neg,
+    Mul,
+    Div,
+    Recip,
+    Sqrt,
+    Ln,
+    Square,
+    Derivative(usize),
+    MulTo(usize),
+    DivTo(usize),
+    SqrtTo(usize),
+    LnTo(usize),
 }
 
-// The eight bytes at index at, little-endian.
-fn word(s: &[u8; 513], at: usize) -> u64
-    requires { at + 8 ≤ 513 }
-{
-    let mut w = 0u64;
-    let mut i: usize = 8;
-    while 0 < i {
-        i = i - 1;
-        w = w % 0x100_0000_0000_0000 * 256 + wide(s[at + i]);
-    }
-    w
-}
-
-// The jet whose coefficients stand at index at.
-fn operand(s: &[u8; 513], at: usize) -> Jet
-    requires { at + 256 ≤ 513 }
-{
-    let mut c = [0.0; 32];
-    let mut m: usize = 0;
-    while m < 32 {
-        c[m] = float::from_bits(word(s, at + 8 * m));
-        m += 1;
-    }
-    Jet { c }
-}
-
-fn whole(operation: u64, a: Jet, b: Jet) -> Jet {
-    match operation {
-        0 => jet::add(a, b),
-        1 => jet::sub(a, b),
-        2 => jet::neg(a),
-        3 => jet::mul(a, b),
-        4 => jet::div(a, b),
-        5 => jet::recip(a),
-        6 => jet::sqrt(a),
-        7 => jet::ln(a),
-        8 => jet::square(a),
-        9 => jet::derivative(1, a),
-        10 => jet::derivative(2, a),
-        _ => jet::derivative(3, a),
-    }
-}
-
-// How many coefficients an operation byte of 16 or more asks for.
-fn asked(operation: u64) -> usize {
-    match operation / 16 {
-        1 => 0,
-        2 => 1,
-        3 => 4,
-        4 => 16,
-        _ => 40,
-    }
-}
-
-fn part(operation: u64, n: usize, a: Jet, b: Jet) -> Jet {
-    match operation {
-        3 => jet::mul_to(n, a, b),
-        4 => jet::div_to(n, a, b),
-        6 => jet::sqrt_to(n, a),
-        _ => jet::ln_to(n, a),
-    }
-}
-
-fn result(operation: u64, a: Jet, b: Jet) -> Jet {
-    if operation < 16 {
-        return whole(operation, a, b);
-    }
-    part(operation % 16, asked(operation), a, b)
-}
-
-fn print_line(a: Jet) {
-    let mut m: usize = 0;
-    while m < 32 {
-        if 0 < m {
-            io::write_all(STDOUT_FILENO, b" ");
+// Each byte asks for an operation.
+impl From<u8> for Operation {
+    fn from(byte: u8) -> Operation {
+        match byte {
+            0 => Operation::Add,
+            1 => Operation::Sub,
+            2 => Operation::Neg,
+            3 => Operation::Mul,
+            4 => Operation::Div,
+            5 => Operation::Recip,
+            6 => Operation::Sqrt,
+            7 => Operation::Ln,
+            8 => Operation::Square,
+            9 => Operation::Derivative(1),
+            10 => Operation::Derivative(2),
+            11..=15 => Operation::Derivative(3),
+            _ => {
+                let n = match byte / 16 {
+                    1 => 0,
+                    2 => 1,
+                    3 => 4,
+                    4 => 16,
+                    _ => 40,
+                };
+                match byte % 16 {
+                    3 => Operation::MulTo(n),
+                    4 => Operation::DivTo(n),
+                    6 => Operation::SqrtTo(n),
+                    _ => Operation::LnTo(n),
+                }
+            }
         }
-        io::print_hex(STDOUT_FILENO, float::to_bits(a.c[m]), 16);
-        m += 1;
-    }
-    io::write_all(STDOUT_FILENO, b"\n");
-}
-
-// Reads one operation and prints its line, and answers whether there was a whole one.
-fn run_one() -> bool {
-    let mut s = [0u8; 513];
-    let n = io::read_full(0, &mut s);
-    if n < 513 {
-        return false;
-    }
-    let a = operand(&s, 1);
-    let b = operand(&s, 257);
-    print_line(result(wide(s[0]), a, b));
-    true
-}
-
-fn run_all() {
-    let mut turns = u64::MAX;
-    while 0 < turns && run_one() {
-        turns = turns - 1;
     }
 }
 
-fn main() {
-    run_all();
+impl Operation {
+    fn apply(self, a: Jet, b: Jet) -> Jet {
+        match self {
+            Operation::Add => jet::add(a, b),
+            Operation::Sub => jet::sub(a, b),
+            Operation::Neg => jet::neg(a),
+            Operation::Mul => jet::mul(a, b),
+            Operation::Div => jet::div(a, b),
+            Operation::Recip => jet::recip(a),
+            Operation::Sqrt => jet::sqrt(a),
+            Operation::Ln => jet::ln(a),
+            Operation::Square => jet::square(a),
+            Operation::Derivative(k) => jet::derivative(k, a),
+            Operation::MulTo(n) => jet::mul_to(n, a, b),
+            Operation::DivTo(n) => jet::div_to(n, a, b),
+            Operation::SqrtTo(n) => jet::sqrt_to(n, a),
+            Operation::LnTo(n) => jet::ln_to(n, a),
+        }
+    }
+}
+
+fn read_operation(input: &mut impl Read) -> io::Result<Operation> {
+    let mut bytes = [0u8; 1];
+    input.read_exact(&mut bytes)?;
+    Ok(Operation::from(bytes[0]))
+}
+
+fn read_float(input: &mut impl Read) -> io::Result<f64> {
+    let mut bytes = [0u8; 8];
+    input.read_exact(&mut bytes)?;
+    Ok(float::from_bits(u64::from_le_bytes(bytes)))
+}
+
+fn read_jet(input: &mut impl Read) -> io::Result<Jet> {
+    let mut c = [0.0; 32];
+    for x in c.iter_mut() {
+        *x = read_float(input)?;
+    }
+    Ok(Jet { c })
+}
+
+fn print_line(out: &mut impl Write, a: Jet) -> io::Result<()> {
+    for (m, x) in a.c.iter().enumerate() {
+        if m > 0 {
+            write!(out, " ")?;
+        }
+        write!(out, "{:016x}", float::to_bits(*x))?;
+    }
+    writeln!(out)
+}
+
+// Runs operations until one is cut off, an unexpected end. A loop has to end, and no input uses up this count.
+fn run_all(input: &mut impl Read, out: &mut impl Write) -> io::Result<()> {
+    for _ in 0..u64::MAX {
+        let operation = read_operation(input)?;
+        let a = read_jet(input)?;
+        let b = read_jet(input)?;
+        print_line(out, operation.apply(a, b))?;
+    }
+    Ok(())
+}
+
+fn main(rt: HostRuntime) -> io::Result<()> {
+    let mut input = BufReader::new(rt.alloc(), rt.reader())?;
+    let mut out = BufWriter::new(rt.alloc(), io::writer(&rt))?;
+    match run_all(&mut input, &mut out) {
+        Err(e) if e.kind() == ErrorKind::UnexpectedEof => {}
+        ended => ended?,
+    }
+    out.flush()
 }

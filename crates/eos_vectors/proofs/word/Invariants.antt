@@ -1,9 +1,0 @@
--- `eos_vectors::word` is safe and ends.
-use Prim.Native.Nat.{◌≤◌}
-use Rattle.eos_vectors.proofs.word.Given as goal
-
-abbrev pub invariant-loop-i : goal.invariant-loop-i
-invariant-loop-i l = l.i ≤ 8
-
-abbrev pub decreases-loop-i : goal.decreases-loop-i
-decreases-loop-i l = l.i
