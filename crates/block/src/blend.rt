@@ -2,10 +2,10 @@
 ghost use Rattle.std.specs.Prelude.{◌≡◌, ◌+◌, ◌-◌, ◌*◌, ◌/◌, ◌%◌, ◌≤◌, ◌<◌, true, cond, length, replicate};
 ghost use Rattle.float.specs.Ops.{f0, f1};
 ghost use Rattle.buf.specs.Bytes.{f64_at};
-ghost use Rattle.eos.specs.Cubic.{component_of, element_of, alone};
+ghost use Rattle.eos.specs.Cubic.{component_of, element_of, alone, pure_of};
 ghost use Rattle.block.specs.Lists.{tabulate};
 ghost use Rattle.block.specs.Numbers.{floats_at, coefficient_count, interaction_count, reads_fractions, fraction_count};
-ghost use Rattle.block.specs.Blend.{at as at_row, component_at, interaction_at, empty_blend};
+ghost use Rattle.block.specs.Blend.{at as at_row, component_at, interaction_at, empty_blend, with_components, with_interactions, with_fractions};
 ghost use Rattle.block.specs.Checks.{component_fits, components_fit, interactions_fit, fractions_fit};
 
 use crate::checks::{component_fits, fraction_fits};
@@ -47,6 +47,25 @@ pub fn read_components(
         b[i] = c.b;
         kappa[i] = c.kappa;
         i += 1;
+    }
+    true
+}
+
+pub fn read_blend_components(n: usize, block: &[u8], at: usize, blend: &mut Blend) -> bool
+    requires { (n ≤ 8) × (at + 24 * n ≤ length block.now) × (blend.old.tc ≡ replicate 8 f0) × (blend.old.a ≡ replicate 8 f0) × (blend.old.b ≡ replicate 8 f0) × (blend.old.kappa ≡ replicate 8 f0) }
+    ensures fits { result ≡ components_fit n (floats_at (coefficient_count n) block.now at) }
+    ensures read { result ≡ true → blend.new ≡ with_components n (floats_at (coefficient_count n) block.now at) blend.old }
+{
+    for i in 0..n {
+        let from = at + 24 * i;
+        if !component_fits(block, from) {
+            return false;
+        }
+        let c = component(block, from);
+        blend.tc[i] = c.tc;
+        blend.a[i] = c.a;
+        blend.b[i] = c.b;
+        blend.kappa[i] = c.kappa;
     }
     true
 }
@@ -126,6 +145,39 @@ pub fn read_fractions(kind: u64, n: usize, block: &[u8], at: usize, x: &mut [f64
     true
 }
 
+pub fn read_blend_interactions(
+    kind: u64,
+    n: usize,
+    block: &[u8],
+    at: usize,
+    blend: &mut Blend,
+) -> bool
+    requires { (1 ≤ n) × (n ≤ 8) × (at + 4 * (n * (n - 1)) ≤ length block.now) × (blend.old.k_ij ≡ replicate 64 f0) }
+    ensures fits { result ≡ interactions_fit n (floats_at (interaction_count n) block.now at) }
+    ensures read { result ≡ true → blend.new ≡ cond (reads_fractions kind) (with_interactions n (floats_at (interaction_count n) block.now at) blend.old) blend.old }
+{
+    if reads_fractions(kind) {
+        return read_interactions(n, block, at, &mut blend.k_ij);
+    }
+    interactions_fit(n, block, at)
+}
+
+pub fn read_blend_fractions(kind: u64, n: usize, block: &[u8], at: usize, blend: &mut Blend) -> bool
+    requires { (n ≤ 8) × (at + 8 * n ≤ length block.now) × (blend.old.x ≡ replicate 8 f0) }
+    ensures fits { result ≡ fractions_fit n (floats_at (fraction_count kind n) block.now at) }
+    ensures read { result ≡ true → blend.new ≡ with_fractions (floats_at (fraction_count kind n) block.now at) blend.old }
+{
+    let count = fraction_count(kind, n);
+    for i in 0..count {
+        let fraction = buf::get_f64(block, at + 8 * i);
+        if !fraction_fits(fraction) {
+            return false;
+        }
+        blend.x[i] = fraction;
+    }
+    true
+}
+
 // Element i of a row comes first and alone.
 fn keep_alone(row: &mut [f64; 8], i: usize)
     requires { i < 8 }
@@ -152,6 +204,19 @@ pub fn keep_component(
     keep_alone(b, i);
     keep_alone(kappa, i);
     *x = [1.0, 0.0, 0.0, 0.0, 0.0, 0.0, 0.0, 0.0];
+}
+
+// Component i alone, with fraction 1.
+pub fn keep_component_alone(i: usize, blend: &mut Blend)
+    requires { (i < 8) × (blend.old.k_ij ≡ replicate 64 f0) }
+    ensures { blend.new ≡ pure_of blend.old i }
+{
+    blend.n = 1;
+    keep_alone(&mut blend.tc, i);
+    keep_alone(&mut blend.a, i);
+    keep_alone(&mut blend.b, i);
+    keep_alone(&mut blend.kappa, i);
+    blend.x = [1.0, 0.0, 0.0, 0.0, 0.0, 0.0, 0.0, 0.0];
 }
 
 pub fn empty() -> Blend
