@@ -8,20 +8,9 @@ ghost use Rattle.block.specs.Numbers.{floats_at, coefficient_count, interaction_
 ghost use Rattle.block.specs.Blend.{at as at_row, component_at, interaction_at, empty_blend, with_components, with_interactions, with_fractions};
 ghost use Rattle.block.specs.Checks.{component_fits, components_fit, interactions_fit, fractions_fit};
 
-use crate::checks::{component_fits, fraction_fits};
+use crate::checks::{component, finite_at, fraction_fits};
 use crate::numbers::{fraction_count, reads_fractions};
-use eos::{Blend, Component};
-
-// The component of the three numbers from index from, which fit.
-fn component(block: &[u8], from: usize) -> Component
-    requires { (from + 24 ≤ length block.now) × (component_fits (f64_at block.now from) (f64_at block.now (from + 8)) (f64_at block.now (from + 16)) ≡ true) }
-    ensures { result ≡ component_of (f64_at block.now from) (f64_at block.now (from + 8)) (f64_at block.now (from + 16)) }
-{
-    let critical_temperature = buf::get_finite(block, from);
-    let critical_pressure = buf::get_finite(block, from + 8);
-    let acentric_factor = buf::get_finite(block, from + 16);
-    eos::component(critical_temperature, critical_pressure, acentric_factor)
-}
+use eos::Blend;
 
 pub fn read_components(
     n: usize,
@@ -38,10 +27,9 @@ pub fn read_components(
     let mut i: usize = 0;
     while i < n {
         let from = at + 24 * i;
-        if !component_fits(block, from) {
+        let Some(c) = component(block, from) else {
             return false;
-        }
-        let c = component(block, from);
+        };
         tc[i] = c.tc;
         a[i] = c.a;
         b[i] = c.b;
@@ -57,11 +45,9 @@ pub fn read_blend_components(n: usize, block: &[u8], at: usize, blend: &mut Blen
     ensures read { result ≡ true → blend.new ≡ with_components n (floats_at (coefficient_count n) block.now at) blend.old }
 {
     for i in 0..n {
-        let from = at + 24 * i;
-        if !component_fits(block, from) {
+        let Some(c) = component(block, at + 24 * i) else {
             return false;
-        }
-        let c = component(block, from);
+        };
         blend.tc[i] = c.tc;
         blend.a[i] = c.a;
         blend.b[i] = c.b;
@@ -71,26 +57,21 @@ pub fn read_blend_components(n: usize, block: &[u8], at: usize, blend: &mut Blen
 }
 
 // The interactions stand by rows, those with the j above i in row i.
+#[tactic(auto, using(crate::proofs::Sizes::place_below))]
 fn read_interactions(n: usize, block: &[u8], at: usize, k_ij: &mut [f64; 64]) -> bool
     requires { (1 ≤ n) × (n ≤ 8) × (at + 4 * (n * (n - 1)) ≤ length block.now) × (k_ij.old ≡ replicate 64 f0) }
     ensures { (result ≡ interactions_fit n (floats_at (interaction_count n) block.now at)) × (result ≡ true → k_ij.new ≡ tabulate 64 (λ q. interaction_at n (floats_at (interaction_count n) block.now at) (q / 8) (q % 8))) }
 {
     let mut place: usize = 0;
-    let mut i: usize = 0;
-    while i < n {
-        let mut j = i + 1;
-        while j < n {
-            let from = at + 8 * place;
-            if !buf::is_finite_at(block, from) {
+    for i in 0..n {
+        for j in i + 1..n {
+            let Some(k) = finite_at(block, at + 8 * place) else {
                 return false;
-            }
-            let k = buf::get_finite(block, from);
+            };
             k_ij[8 * i + j] = k;
             k_ij[8 * j + i] = k;
             place += 1;
-            j += 1;
         }
-        i += 1;
     }
     true
 }
@@ -100,15 +81,7 @@ fn interactions_fit(n: usize, block: &[u8], at: usize) -> bool
     requires { (1 ≤ n) × (n ≤ 8) × (at + 4 * (n * (n - 1)) ≤ length block.now) }
     ensures { result ≡ interactions_fit n (floats_at (interaction_count n) block.now at) }
 {
-    let count = n * (n - 1) / 2;
-    let mut i: usize = 0;
-    while i < count {
-        if !buf::is_finite_at(block, at + 8 * i) {
-            return false;
-        }
-        i += 1;
-    }
-    true
+    (0..n * (n - 1) / 2).all(|i| buf::is_finite_at(block, at + 8 * i))
 }
 
 // The interactions that a kind searches with: those of the whole blend, or none.

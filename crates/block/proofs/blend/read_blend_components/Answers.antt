@@ -54,14 +54,14 @@ loop-i-init c =
     let P = c.requires in
     record { fit = refl; filled = first_none _ _ P.2 P.3 P.4 P.5 }
 
-pub returns-then-not-component_fits-clause-fits : goal.returns-then-not-component_fits-clause-fits
+pub returns-in_default-clause-fits : goal.returns-in_default-clause-fits
 unfolding components_fit
-returns-then-not-component_fits-clause-fits c =
+returns-in_default-clause-fits c =
     let A = c.args in
     let i = c.loop-i.i in
     let row = floats_at (3 * A.n) A.block.now A.at in
     let e = component_numbers A.n A.block.now A.at i c.loop-i-test.true c.requires.0 in
-    all_fails (component_test row) A.n i c.loop-i-test.true (component_tested row i _ _ _ _ _ e c.component_fits.ensures c.if-not-component_fits.true)
+    all_fails (component_test row) A.n i c.loop-i-test.true (component_tested row i _ _ _ _ e (rw c.in_default.is at c.component.ensures))
 
 pub loop-i-preserved : goal.loop-i-preserved
 loop-i-preserved c =
@@ -70,8 +70,8 @@ loop-i-preserved c =
     let row = floats_at (3 * A.n) A.block.now A.at in
     let e = component_numbers A.n A.block.now A.at L.i c.loop-i-test.true c.requires.0 in
     record {
-      fit = all_more (component_test row) L.i L.invariant.fit (component_tested row L.i _ _ _ _ _ e c.component_fits.ensures c.if-not-component_fits.false);
-      filled = first_more row L.i L.blend A.blend.now _ (omega arith) (component_made row L.i _ _ _ _ e c.component-c.ensures) L.invariant.filled;
+      fit = all_more (component_test row) L.i L.invariant.fit (component_tested row L.i _ _ _ _ e c.in-Some.ensures.0);
+      filled = first_more row L.i L.blend A.blend.now _ (omega arith) (component_made row L.i _ _ _ _ e c.in-Some.ensures.1) L.invariant.filled;
     }
 
 pub returns-clause-fits : goal.returns-clause-fits

@@ -9,14 +9,14 @@ use Rattle.block.proofs.checks.fraction_sum.Goals as goal
 
 pub loop-i-init : goal.loop-i-init
 unfolding fraction_sum total
-loop-i-init c = (omega arith, refl)
+loop-i-init c = refl
 
 pub loop-i-preserved : goal.loop-i-preserved
 loop-i-preserved c =
     let a = c.args in
-    (omega arith, fold_turn (λ s i. s ⊕ at a.x.now i) a.n c.loop-i.i c.loop-i.s _ _ (omega arith) refl c.loop-i.invariant.1)
+    fold_turn (λ s i. s ⊕ at a.x.now i) a.n c.loop-i.i c.loop-i.s _ _ (omega arith) refl c.loop-i.invariant
 
 pub returns : goal.returns
 returns c =
     let a = c.args in
-    sym (fold_end (λ s i. s ⊕ at a.x.now i) a.n c.loop-i.i c.loop-i.s (omega arith)) ∙ c.loop-i.invariant.1
+    sym (fold_end (λ s i. s ⊕ at a.x.now i) a.n c.loop-i.i c.loop-i.s (omega arith)) ∙ c.loop-i.invariant
