@@ -39,6 +39,7 @@ pub fn read_components(
     true
 }
 
+// The components into a blend that has none yet. Where one does not fit, the blend is left half read.
 pub fn read_blend_components(n: usize, block: &[u8], at: usize, blend: &mut Blend) -> bool
     requires { (n ≤ 8) × (at + 24 * n ≤ length block.now) × (blend.old.tc ≡ replicate 8 f0) × (blend.old.a ≡ replicate 8 f0) × (blend.old.b ≡ replicate 8 f0) × (blend.old.kappa ≡ replicate 8 f0) }
     ensures fits { result ≡ components_fit n (floats_at (coefficient_count n) block.now at) }
@@ -118,6 +119,7 @@ pub fn read_fractions(kind: u64, n: usize, block: &[u8], at: usize, x: &mut [f64
     true
 }
 
+// The interactions that a kind searches with: those of the whole blend, or none.
 pub fn read_blend_interactions(
     kind: u64,
     n: usize,
@@ -130,11 +132,13 @@ pub fn read_blend_interactions(
     ensures read { result ≡ true → blend.new ≡ cond (reads_fractions kind) (with_interactions n (floats_at (interaction_count n) block.now at) blend.old) blend.old }
 {
     if reads_fractions(kind) {
-        return read_interactions(n, block, at, &mut blend.k_ij);
+        read_interactions(n, block, at, &mut blend.k_ij)
+    } else {
+        interactions_fit(n, block, at)
     }
-    interactions_fit(n, block, at)
 }
 
+// The fractions that a kind reads: those of the whole blend, or none.
 pub fn read_blend_fractions(kind: u64, n: usize, block: &[u8], at: usize, blend: &mut Blend) -> bool
     requires { (n ≤ 8) × (at + 8 * n ≤ length block.now) × (blend.old.x ≡ replicate 8 f0) }
     ensures fits { result ≡ fractions_fit n (floats_at (fraction_count kind n) block.now at) }
@@ -152,12 +156,12 @@ pub fn read_blend_fractions(kind: u64, n: usize, block: &[u8], at: usize, blend:
 }
 
 // Element i of a row comes first and alone.
+#[tactic(auto, unfolding(eos::specs::Cubic::element_of))]
 fn keep_alone(row: &mut [f64; 8], i: usize)
     requires { i < 8 }
     ensures { row.new ≡ alone (element_of row.old i) }
 {
-    let x = row[i];
-    *row = [x, 0.0, 0.0, 0.0, 0.0, 0.0, 0.0, 0.0];
+    *row = [row[i], 0.0, 0.0, 0.0, 0.0, 0.0, 0.0, 0.0];
 }
 
 // Component i comes first and alone, with fraction 1.
@@ -180,6 +184,7 @@ pub fn keep_component(
 }
 
 // Component i alone, with fraction 1.
+#[tactic(auto, unfolding(eos::specs::Cubic::pure_of))]
 pub fn keep_component_alone(i: usize, blend: &mut Blend)
     requires { (i < 8) × (blend.old.k_ij ≡ replicate 64 f0) }
     ensures { blend.new ≡ pure_of blend.old i }
@@ -192,6 +197,7 @@ pub fn keep_component_alone(i: usize, blend: &mut Blend)
     blend.x = [1.0, 0.0, 0.0, 0.0, 0.0, 0.0, 0.0, 0.0];
 }
 
+#[tactic(auto, unfolding(crate::specs::Blend::empty_blend))]
 pub fn empty() -> Blend
     ensures { result ≡ empty_blend }
 {

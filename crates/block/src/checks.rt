@@ -74,6 +74,7 @@ pub fn fraction_fits(x: f64) -> bool
 }
 
 // The sum of the fractions, from the first.
+#[tactic(auto, using(eos::proofs::Folds::fold_end), unfolding(crate::specs::Checks::fraction_sum, eos::specs::Indices::total))]
 fn fraction_sum(n: usize, x: &[f64; 8]) -> f64
     requires { (1 ≤ n) × (n ≤ 8) }
     ensures { result ≡ fraction_sum n x.now }

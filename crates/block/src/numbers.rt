@@ -1,4 +1,5 @@
 // Which numbers a job reads, and the conditions.
+// Kinds are numbers here and no `schedule::Kind`: the clauses of `reads_fractions`, `conditions` and the checks say what they answer for any number.
 ghost use Rattle.std.specs.Prelude.{◌≡◌, ◌+◌, ◌≤◌, length};
 ghost use Rattle.buf.specs.Bytes.{u64_at, f64_at};
 ghost use Rattle.block.specs.Numbers.{reads_fractions, fraction_count, optional_temperature, optional_start, uses_choice, uses_pressure, uses_start, used_choice, used_pressure, used_start, conditions_of};

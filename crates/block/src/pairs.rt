@@ -1,8 +1,10 @@
 // The four pairs of offset and length at the start of a block: check 11.
+// Slices of 640 bytes and no `&[u8; 640]`: callers of `pairs_fit` and `offset` hand slices whose length they tested, and a conversion here would test it again.
 ghost use Rattle.std.specs.Prelude.{◌≡◌, ◌+◌, ◌≤◌, ◌<◌, length};
 ghost use Rattle.buf.specs.Bytes.{num_at};
 ghost use Rattle.block.specs.Pairs.{offset_of, lengths_fit, offsets_fit, pairs_fit};
 
+#[tactic(auto, using(buf::proofs::Laws::num_at_lt))]
 fn u16_at(block: &[u8], at: usize) -> u64
     requires { at + 2 ≤ length block.now }
     ensures { (result ≡ num_at 2 block.now at) × (result < 65536) }

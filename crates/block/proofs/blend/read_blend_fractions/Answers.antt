@@ -1,17 +1,11 @@
-use mathlib.Core.Path.{◌≡◌, refl, ◌∙◌}
-use Prim.Native.Nat.{ℕ, ◌+◌, ◌*◌, ◌≤◌, ◌<◌}
+use mathlib.Core.Path.{refl, ◌∙◌}
 use native.Mathlib.Omega.{arith}
-use mathlib.Core.Bool.{true}
-use mathlib.Core.List.{List}
-use lib.ListN.{set, replicate}
-use lib.Ieee.{Float}
 use Rattle.float.specs.Ops.{f0}
-use Rattle.eos.specs.declared.types.Blend.{Blend}
-use Rattle.block.specs.Lists.{tabulate, all_below}
+use Rattle.block.specs.Lists.{all_below}
 use Rattle.block.specs.Numbers.{floats_at}
-use Rattle.block.specs.Blend.{at as at_row, with_fractions}
+use Rattle.block.specs.Blend.{at as at_row}
 use Rattle.block.specs.Checks.{fractions_fit}
-use Rattle.block.proofs.Lists.{upto, upto_none, upto_more, all_more, all_fails}
+use Rattle.block.proofs.Lists.{upto_none, upto_more, all_more, all_fails}
 use Rattle.block.proofs.PairLaws.{fractions_most}
 use Rattle.block.proofs.ReadLaws.{read_at, fraction_test, fraction_tested, fractions_stored, fractions_all}
 use Rattle.block.proofs.blend.read_blend_fractions.Goals as goal

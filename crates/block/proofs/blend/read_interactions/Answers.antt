@@ -3,7 +3,7 @@ use Prim.Native.Nat.{◌-◌, ◌*◌, ◌/◌, ◌<◌}
 use native.Mathlib.Omega.{arith}
 use Rattle.float.specs.Sign.{finite_of}
 use Rattle.block.specs.Lists.{all_below}
-use Rattle.block.specs.Blend.{at as at_row, rows_before, place}
+use Rattle.block.specs.Blend.{at as at_row, rows_before}
 use Rattle.block.specs.Checks.{interactions_fit}
 use Rattle.block.proofs.Lists.{all_more, all_done, all_fails}
 use Rattle.block.proofs.ReadLaws.{stopped}
