@@ -1,12 +1,11 @@
 // The numbers of a blend, read from a block into zeroed arrays, each with its check: 12, 13 and 14.
 ghost use Rattle.std.specs.Prelude.{◌≡◌, ◌+◌, ◌-◌, ◌*◌, ◌/◌, ◌%◌, ◌≤◌, ◌<◌, true, cond, length, replicate};
 ghost use Rattle.float.specs.Ops.{f0, f1};
-ghost use Rattle.buf.specs.Bytes.{f64_at};
-ghost use Rattle.eos.specs.Cubic.{component_of, element_of, alone, pure_of};
+ghost use Rattle.eos.specs.Cubic.{element_of, alone, pure_of};
 ghost use Rattle.block.specs.Lists.{tabulate};
 ghost use Rattle.block.specs.Numbers.{floats_at, coefficient_count, interaction_count, reads_fractions, fraction_count};
 ghost use Rattle.block.specs.Blend.{at as at_row, component_at, interaction_at, empty_blend, with_components, with_interactions, with_fractions};
-ghost use Rattle.block.specs.Checks.{component_fits, components_fit, interactions_fit, fractions_fit};
+ghost use Rattle.block.specs.Checks.{components_fit, interactions_fit, fractions_fit};
 
 use crate::checks::{component, finite_at, fraction_fits};
 use crate::numbers::{fraction_count, reads_fractions};
