@@ -1,112 +1,101 @@
 // Which numbers a job reads, and the conditions.
+// Kinds are numbers here and no `schedule::Kind`: the clauses of `reads_fractions`, `conditions` and the checks say what they answer for any number.
 ghost use Rattle.std.specs.Prelude.{◌≡◌, ◌+◌, ◌≤◌, length};
 ghost use Rattle.buf.specs.Bytes.{u64_at, f64_at};
 ghost use Rattle.block.specs.Numbers.{reads_fractions, fraction_count, optional_temperature, optional_start, uses_choice, uses_pressure, uses_start, used_choice, used_pressure, used_start, conditions_of};
 
 use crate::types::Conditions;
 
+#[tactic(auto, unfolding(crate::specs::Numbers::reads_fractions))]
 pub fn reads_fractions(kind: u64) -> bool
     ensures { result ≡ reads_fractions kind }
 {
-    if kind == 5 {
-        return false;
-    }
-    kind != 6
+    !matches!(kind, 5 | 6)
 }
 
+#[tactic(auto, unfolding(crate::specs::Numbers::fraction_count))]
 pub fn fraction_count(kind: u64, n: usize) -> usize
     ensures { result ≡ fraction_count kind n }
 {
-    if reads_fractions(kind) {
-        return n;
-    }
-    0
+    if reads_fractions(kind) { n } else { 0 }
 }
 
+#[tactic(auto, unfolding(crate::specs::Numbers::optional_temperature))]
 pub fn optional_temperature(kind: u64) -> bool
     ensures { result ≡ optional_temperature kind }
 {
-    if kind == 5 {
-        return true;
-    }
-    if kind == 7 {
-        return true;
-    }
-    kind == 9
+    matches!(kind, 5 | 7 | 9)
 }
 
+#[tactic(auto, unfolding(crate::specs::Numbers::optional_start))]
 fn optional_start(kind: u64) -> bool
     ensures { result ≡ optional_start kind }
 {
-    if kind == 8 {
-        return true;
-    }
-    optional_temperature(kind)
+    kind == 8 || optional_temperature(kind)
 }
 
+#[tactic(auto, unfolding(crate::specs::Numbers::uses_choice))]
 fn uses_choice(kind: u64) -> bool
     ensures { result ≡ uses_choice kind }
 {
-    if kind == 1 {
-        return true;
-    }
-    if kind == 4 {
-        return true;
-    }
-    !reads_fractions(kind)
+    matches!(kind, 1 | 4) || !reads_fractions(kind)
 }
 
+#[tactic(auto, unfolding(crate::specs::Numbers::uses_pressure))]
 fn uses_pressure(kind: u64) -> bool
     ensures { result ≡ uses_pressure kind }
 {
-    if 2 < kind {
-        return kind == 9;
-    }
-    true
+    kind <= 2 || kind == 9
 }
 
+#[tactic(auto, unfolding(crate::specs::Numbers::uses_start))]
 fn uses_start(kind: u64, choice: u64) -> bool
     ensures { result ≡ uses_start kind choice }
 {
-    if kind == 1 {
-        return choice == 2;
+    match kind {
+        1 => choice == 2,
+        3 => true,
+        _ => optional_start(kind),
     }
-    if kind == 3 {
-        return true;
-    }
-    optional_start(kind)
 }
 
+#[tactic(auto, unfolding(crate::specs::Numbers::used_choice))]
 fn choice(kind: u64, block: &[u8], at: usize) -> u64
     requires { at + 32 ≤ length block.now }
     ensures { result ≡ used_choice kind (u64_at block.now at) }
 {
     if uses_choice(kind) {
-        return buf::get_u64(block, at);
+        buf::get_u64(block, at)
+    } else {
+        0
     }
-    0
 }
 
+#[tactic(auto, unfolding(crate::specs::Numbers::used_pressure))]
 fn pressure(kind: u64, block: &[u8], at: usize) -> f64
     requires { at + 32 ≤ length block.now }
     ensures { result ≡ used_pressure kind (f64_at block.now (at + 16)) }
 {
     if uses_pressure(kind) {
-        return buf::get_f64(block, at + 16);
+        buf::get_f64(block, at + 16)
+    } else {
+        0.0
     }
-    0.0
 }
 
+#[tactic(auto, unfolding(crate::specs::Numbers::used_start))]
 fn start(kind: u64, choice: u64, block: &[u8], at: usize) -> f64
     requires { at + 32 ≤ length block.now }
     ensures { result ≡ used_start kind choice (f64_at block.now (at + 24)) }
 {
     if uses_start(kind, choice) {
-        return buf::get_f64(block, at + 24);
+        buf::get_f64(block, at + 24)
+    } else {
+        0.0
     }
-    0.0
 }
 
+#[tactic(auto, unfolding(crate::specs::Numbers::conditions_of, crate::specs::Numbers::conditions_at, crate::specs::Numbers::used))]
 pub fn conditions(kind: u64, block: &[u8], at: usize) -> Conditions
     requires { at + 32 ≤ length block.now }
     ensures { result ≡ conditions_of kind block.now at }
