@@ -44,9 +44,9 @@ fn given(x: f64) -> Start
     ensures { result ≡ given_of x }
 {
     if is_plus_zero(x) {
-        return Start::None;
+        return None;
     }
-    Start::Given(x)
+    Some(x)
 }
 
 fn task(kind: u64, c: Conditions) -> Task

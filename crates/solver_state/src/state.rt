@@ -101,8 +101,8 @@ fn density_step(blend: Blend, c: Conditions, state: State) -> State
     let numbers = state.numbers;
     let place = solver_step::density_place_by(numbers);
     match place {
-        DensityPlace::Ended(_) => state,
-        DensityPlace::At(spot) => State {
+        ControlFlow::Break(_) => state,
+        ControlFlow::Continue(spot) => State {
             numbers: solver_step::density_numbers(solver_step::density_next(blend, c, spot)),
             evaluations: state.evaluations + 1,
             latest: solver_step::density_at(c, spot),
@@ -117,8 +117,8 @@ fn stable_step(blend: Blend, maxdensity: f64, t: f64, p: f64, state: State) -> S
     let numbers = state.numbers;
     let place = solver_step::stable_place_by(numbers);
     match place {
-        StablePlace::Ended(_) => state,
-        StablePlace::At(spot) => {
+        ControlFlow::Break(_) => state,
+        ControlFlow::Continue(spot) => {
             let next = solver_step::stable_next(blend, maxdensity, t, p, spot);
             State {
                 numbers: solver_step::stable_numbers(next),
@@ -136,8 +136,8 @@ fn spinodal_step(blend: Blend, maxdensity: f64, t: f64, state: State) -> State
     let numbers = state.numbers;
     let place = solver_step::spinodal_place_by(numbers);
     match place {
-        SpinodalPlace::Ended(_) => state,
-        SpinodalPlace::At(spot) => {
+        ControlFlow::Break(_) => state,
+        ControlFlow::Continue(spot) => {
             let next = solver_step::spinodal_next(blend, maxdensity, t, spot);
             State {
                 numbers: solver_step::spinodal_numbers(next),
@@ -155,8 +155,8 @@ fn branch_step(blend: Blend, maxdensity: f64, t: f64, branch: Branch, state: Sta
     let numbers = state.numbers;
     let place = solver_step::spinodal_place_by(numbers);
     match place {
-        SpinodalPlace::Ended(_) => state,
-        SpinodalPlace::At(spot) => {
+        ControlFlow::Break(_) => state,
+        ControlFlow::Continue(spot) => {
             let next = solver_step::branch_next(blend, maxdensity, t, branch, spot);
             State {
                 numbers: solver_step::spinodal_numbers(next),
@@ -174,8 +174,8 @@ fn critical_step(blend: Blend, maxdensity: f64, rho: f64, state: State) -> State
     let numbers = state.numbers;
     let place = solver_critical_step::critical_place_by(numbers);
     match place {
-        CriticalPlace::Ended(_) => state,
-        CriticalPlace::At(spot) => {
+        ControlFlow::Break(_) => state,
+        ControlFlow::Continue(spot) => {
             let next = solver_critical_step::critical_next(blend, maxdensity, rho, spot);
             State {
                 numbers: solver_critical_step::critical_numbers(next),
@@ -193,8 +193,8 @@ fn spinodals_step(blend: Blend, maxdensity: f64, t: f64, state: State) -> State
     let numbers = state.numbers;
     let place = solver_critical_step::spinodals_place_by(numbers);
     match place {
-        SpinodalsPlace::Ended(_) => state,
-        SpinodalsPlace::At(spot) => {
+        ControlFlow::Break(_) => state,
+        ControlFlow::Continue(spot) => {
             let next = solver_critical_step::spinodals_next(blend, maxdensity, t, spot);
             State {
                 numbers: solver_critical_step::spinodals_numbers(next),
@@ -212,8 +212,8 @@ fn temperature_step(blend: Blend, maxdensity: f64, t: f64, state: State) -> Stat
     let numbers = state.numbers;
     let place = solver_binary_step::temperature_place_by(numbers);
     match place {
-        TemperaturePlace::Ended(_) => state,
-        TemperaturePlace::At(spot) => {
+        ControlFlow::Break(_) => state,
+        ControlFlow::Continue(spot) => {
             let next = solver_binary_step::temperature_next(blend, maxdensity, t, spot);
             State {
                 numbers: solver_binary_step::temperature_numbers(next),
@@ -231,8 +231,8 @@ fn pressure_step(blend: Blend, maxdensity: f64, pressure: f64, state: State) -> 
     let numbers = state.numbers;
     let place = solver_binary_step::pressure_place_by(numbers);
     match place {
-        PressurePlace::Ended(_) => state,
-        PressurePlace::At(spot) => {
+        ControlFlow::Break(_) => state,
+        ControlFlow::Continue(spot) => {
             let next = solver_binary_step::pressure_next(blend, maxdensity, pressure, spot);
             State {
                 numbers: solver_binary_step::pressure_numbers(next),

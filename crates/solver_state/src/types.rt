@@ -24,8 +24,8 @@ pub enum Job {
     },
     CriticalPoint {
         maxdensity: f64,
-        temperature: Start,
-        density: Start,
+        temperature: Option<f64>,
+        density: Option<f64>,
     },
     StabilitySpinodals {
         maxdensity: f64,
@@ -36,15 +36,15 @@ pub enum Job {
         z0: f64,
         z1: f64,
         temperature: f64,
-        density: Start,
+        density: Option<f64>,
     },
     CriticalPointBinaryP {
         maxdensity: f64,
         z0: f64,
         z1: f64,
         pressure: f64,
-        temperature: Start,
-        density: Start,
+        temperature: Option<f64>,
+        density: Option<f64>,
     },
 }
 

@@ -7,7 +7,6 @@ use mathlib.Core.Bool.{true}
 use lib.Ieee.{Float, inf, binary64, fits}
 use lib.Ieee.Compare.{differs_from_itself}
 use lib.Ieee.Bits.{of_bits-to_bits}
-use mathlib.Core.Bool.{true}
 use Rattle.float.specs.Ln.{ln_units, ln_of}
 use Rattle.float.proofs.Casts.{same_no_nan}
 use Rattle.float.proofs.SignLaws.{zero_is}

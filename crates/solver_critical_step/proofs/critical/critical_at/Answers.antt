@@ -2,9 +2,9 @@
 use Rattle.solver_critical_step.specs.CriticalStep.{critical_at}
 use Rattle.solver_critical_step.proofs.critical.critical_at.Goals as goal
 
-pub returns-in-Given : goal.returns-in-Given
+pub returns-in-Some : goal.returns-in-Some
 unfolding critical_at
-returns-in-Given c = rw c.in-Given.is
+returns-in-Some c = rw c.in-Some.is
 
 pub returns-in-Trial : goal.returns-in-Trial
 unfolding critical_at

@@ -2,10 +2,10 @@
 use Rattle.solver_state.specs.State.{critical_step}
 use Rattle.solver_state.proofs.state.critical_step.Goals as goal
 
-pub returns-in-Ended : goal.returns-in-Ended
+pub returns-in-Break : goal.returns-in-Break
 unfolding critical_step
-returns-in-Ended c = rw (← c.critical_place_by-place.ensures, c.in-Ended.is)
+returns-in-Break c = rw (← c.critical_place_by-place.ensures, c.in-Break.is)
 
-pub returns-in-At : goal.returns-in-At
+pub returns-in-Continue : goal.returns-in-Continue
 unfolding critical_step
-returns-in-At c = rw (← c.critical_place_by-place.ensures, c.in-At.is, ← c.critical_next-next.ensures, ← c.critical_numbers.ensures, ← c.critical_at.ensures)
+returns-in-Continue c = rw (← c.critical_place_by-place.ensures, c.in-Continue.is, ← c.critical_next-next.ensures, ← c.critical_numbers.ensures, ← c.critical_at.ensures)

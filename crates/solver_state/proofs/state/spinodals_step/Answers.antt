@@ -2,10 +2,10 @@
 use Rattle.solver_state.specs.State.{spinodals_step}
 use Rattle.solver_state.proofs.state.spinodals_step.Goals as goal
 
-pub returns-in-Ended : goal.returns-in-Ended
+pub returns-in-Break : goal.returns-in-Break
 unfolding spinodals_step
-returns-in-Ended c = rw (← c.spinodals_place_by-place.ensures, c.in-Ended.is)
+returns-in-Break c = rw (← c.spinodals_place_by-place.ensures, c.in-Break.is)
 
-pub returns-in-At : goal.returns-in-At
+pub returns-in-Continue : goal.returns-in-Continue
 unfolding spinodals_step
-returns-in-At c = rw (← c.spinodals_place_by-place.ensures, c.in-At.is, ← c.spinodals_next-next.ensures, ← c.spinodals_numbers.ensures, ← c.spinodals_at.ensures)
+returns-in-Continue c = rw (← c.spinodals_place_by-place.ensures, c.in-Continue.is, ← c.spinodals_next-next.ensures, ← c.spinodals_numbers.ensures, ← c.spinodals_at.ensures)

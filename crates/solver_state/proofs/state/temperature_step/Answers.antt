@@ -2,10 +2,10 @@
 use Rattle.solver_state.specs.State.{temperature_step}
 use Rattle.solver_state.proofs.state.temperature_step.Goals as goal
 
-pub returns-in-Ended : goal.returns-in-Ended
+pub returns-in-Break : goal.returns-in-Break
 unfolding temperature_step
-returns-in-Ended c = rw (← c.temperature_place_by-place.ensures, c.in-Ended.is)
+returns-in-Break c = rw (← c.temperature_place_by-place.ensures, c.in-Break.is)
 
-pub returns-in-At : goal.returns-in-At
+pub returns-in-Continue : goal.returns-in-Continue
 unfolding temperature_step
-returns-in-At c = rw (← c.temperature_place_by-place.ensures, c.in-At.is, ← c.temperature_next-next.ensures, ← c.temperature_numbers.ensures, ← c.temperature_at.ensures)
+returns-in-Continue c = rw (← c.temperature_place_by-place.ensures, c.in-Continue.is, ← c.temperature_next-next.ensures, ← c.temperature_numbers.ensures, ← c.temperature_at.ensures)
