@@ -8,12 +8,12 @@ ghost use Rattle.solver_binary.specs.CriticalPointBinary.{start_temperature, sta
 ghost use Rattle.solver_binary.specs.Rounds.{finite3, row_finite, finite12, stepped_p, round_p};
 
 use crate::temperature::start_densities;
-use crate::types::{OutcomeP, Unknowns};
+use crate::types::Unknowns;
 use eos::Blend;
 use evaluations::{Condition, PressureCriticality};
 use linear::Solved3;
-use solver::{Answer, Ran, Refusal, Values};
-use solver_critical::Start;
+use solver::{Answer, Progress, Ran, Refusal, Values};
+use std::ops::ControlFlow;
 
 fn start_temperature(temperature: Option<f64>) -> f64
     ensures { result ≡ start_temperature temperature }

@@ -7,12 +7,12 @@ ghost use Rattle.solver.specs.Evaluated.{evaluated};
 ghost use Rattle.solver_binary.specs.CriticalPointBinary.{start_densities, answer_t, scaled_t, limited, reduced_t, step_t, search_t, critical_point_binary_t};
 ghost use Rattle.solver_binary.specs.Rounds.{stepped_t, round_t};
 
-use crate::types::{Densities, OutcomeT};
+use crate::types::Densities;
 use eos::Blend;
 use evaluations::Criticality;
 use linear::Solved;
-use solver::{Answer, Ran, Refusal, Values};
-use solver_critical::Start;
+use solver::{Answer, Progress, Ran, Refusal, Values};
+use std::ops::ControlFlow;
 
 // the partial densities that a search starts from, z0 and z1 being the fractions
 pub fn start_densities(maxdensity: f64, z0: f64, z1: f64, density: Option<f64>) -> Densities

@@ -3,11 +3,10 @@ ghost use Rattle.std.specs.Prelude.{◌≡◌};
 ghost use Rattle.solver.specs.Evaluated.{evaluated};
 ghost use Rattle.solver_binary_step.specs.BinaryStep.{pressure_on, pressure_begin, pressure_at, pressure_next};
 
-use crate::types::{PressurePlace, PressureSpot};
+use crate::types::PressureSpot;
 use eos::Blend;
-use solver::{Answer, Refusal};
-use solver_binary::OutcomeP;
-use solver_critical::Start;
+use solver::{Progress, Refusal};
+use std::ops::ControlFlow;
 
 // where a round leads, `rounds` being left
 fn pressure_on(rounds: u64, outcome: Progress<Unknowns>) -> Progress<PressureSpot>

@@ -2,9 +2,10 @@
 ghost use Rattle.std.specs.Prelude.{◌≡◌};
 ghost use Rattle.solver_binary_step.specs.Stored.{spot_numbers, temperature_numbers, temperature_spot_by, temperature_place_by, pressure_numbers, pressure_spot_by, pressure_place_by};
 
-use crate::types::{PressurePlace, PressureSpot, TemperaturePlace, TemperatureSpot};
-use solver::{Counters, Numbers, Values};
+use crate::types::{PressureSpot, TemperatureSpot};
+use solver::{Counters, Numbers, Progress, Values};
 use solver_binary::{Densities, Unknowns};
+use std::ops::ControlFlow;
 
 fn spot_numbers(rounds: u64, first: f64, second: f64, third: f64) -> Numbers
     ensures { result ≡ spot_numbers rounds first second third }

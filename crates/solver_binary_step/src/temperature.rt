@@ -3,11 +3,10 @@ ghost use Rattle.std.specs.Prelude.{◌≡◌};
 ghost use Rattle.solver.specs.Evaluated.{evaluated};
 ghost use Rattle.solver_binary_step.specs.BinaryStep.{temperature_on, temperature_begin, temperature_at, temperature_next};
 
-use crate::types::{TemperaturePlace, TemperatureSpot};
+use crate::types::TemperatureSpot;
 use eos::Blend;
-use solver::{Answer, Refusal};
-use solver_binary::OutcomeT;
-use solver_critical::Start;
+use solver::{Progress, Refusal};
+use std::ops::ControlFlow;
 
 // where a round leads, `rounds` being left
 fn temperature_on(rounds: u64, outcome: Progress<Densities>) -> Progress<TemperatureSpot>
@@ -28,7 +27,12 @@ fn temperature_on(rounds: u64, outcome: Progress<Densities>) -> Progress<Tempera
 }
 
 // where a search begins, z0 and z1 being the fractions
-pub fn temperature_begin(maxdensity: f64, z0: f64, z1: f64, density: Option<f64>) -> Progress<TemperatureSpot>
+pub fn temperature_begin(
+    maxdensity: f64,
+    z0: f64,
+    z1: f64,
+    density: Option<f64>,
+) -> Progress<TemperatureSpot>
     ensures { result ≡ temperature_begin maxdensity z0 z1 density }
 {
     let p = solver_binary::start_densities(maxdensity, z0, z1, density);

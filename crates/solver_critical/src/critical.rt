@@ -7,11 +7,12 @@ ghost use Rattle.solver.specs.Evaluated.{evaluated};
 ghost use Rattle.solver_critical.specs.CriticalPoint.{critical_answer, floored, reduced, reduced_step, newton_step, solved as solved_of, converged, trial_temperatures, trial_temperature, start_density, critical_point_hkm, trials, critical_point};
 ghost use Rattle.solver_critical.specs.Rounds.{both_finite, finite6, stepped_round, critical_round};
 
-use crate::types::{CriticalOutcome, Point, Start};
+use crate::types::Point;
 use eos::Blend;
 use evaluations::Criticality;
 use linear::Solved;
-use solver::{Answer, Ran, Refusal, Values};
+use solver::{Answer, Progress, Ran, Refusal, Values};
+use std::ops::ControlFlow;
 
 const TRIAL_TEMPERATURES: [f64; 3] = [300.0, 700.0, 500.0];
 
@@ -223,7 +224,12 @@ fn by_trials(blend: Blend, maxdensity: f64, rho: f64) -> Ran
     }
 }
 
-pub fn critical_search(blend: Blend, maxdensity: f64, temperature: Option<f64>, density: Option<f64>) -> Ran
+pub fn critical_search(
+    blend: Blend,
+    maxdensity: f64,
+    temperature: Option<f64>,
+    density: Option<f64>,
+) -> Ran
     ensures { result ≡ run finite_of (evaluated blend) 0 (critical_point maxdensity temperature density) }
 {
     let rho = start_density(maxdensity, density);

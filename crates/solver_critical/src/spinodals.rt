@@ -8,10 +8,10 @@ ghost use Rattle.solver_critical.specs.Spinodal.{spinodal_answer, both_answer, s
 ghost use Rattle.solver_critical.specs.Rounds.{stability_round};
 
 use crate::critical::{both_finite, critical_search, floor};
-use crate::types::{StabilityOutcome, Start};
 use eos::Blend;
 use evaluations::Stability;
-use solver::{Answer, DensityInitialization, Ran, Refusal, Values};
+use solver::{Answer, DensityInitialization, Progress, Ran, Refusal, Values};
+use std::ops::ControlFlow;
 
 // one spinodal's density as an answer
 fn spinodal_answer(rho: f64) -> Answer

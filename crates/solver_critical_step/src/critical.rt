@@ -3,10 +3,11 @@ ghost use Rattle.std.specs.Prelude.{◌≡◌, suc};
 ghost use Rattle.solver.specs.Evaluated.{evaluated};
 ghost use Rattle.solver_critical_step.specs.CriticalStep.{hkm_on, hkm_start, hkm_next, critical_at, given_on, trial_at, trial_on, critical_begin, critical_next};
 
-use crate::types::{CriticalPlace, CriticalSpot, HkmPlace, HkmSpot};
+use crate::types::{CriticalSpot, HkmSpot};
 use eos::Blend;
-use solver::{Answer, Refusal};
-use solver_critical::{CriticalOutcome, Point, Start};
+use solver::{Progress, Refusal};
+use solver_critical::Point;
+use std::ops::ControlFlow;
 
 // where a round leads, `rounds` being left
 fn hkm_on(rounds: u64, outcome: Progress<Point>) -> Progress<HkmSpot>
@@ -89,7 +90,12 @@ fn trial_on(rho: f64, trial: u64, place: Progress<HkmSpot>) -> Progress<Critical
 }
 
 // The one evaluation at a spot, and where it leads. `start` is the density that each trial starts from.
-pub fn critical_next(blend: Blend, maxdensity: f64, start: f64, spot: CriticalSpot) -> Progress<CriticalSpot>
+pub fn critical_next(
+    blend: Blend,
+    maxdensity: f64,
+    start: f64,
+    spot: CriticalSpot,
+) -> Progress<CriticalSpot>
     ensures { result ≡ critical_next maxdensity start (evaluated blend) spot }
 {
     match spot {

@@ -4,10 +4,10 @@ ghost use Rattle.solver.specs.Evaluated.{evaluated};
 ghost use Rattle.solver_critical_step.specs.SpinodalsStep.{stability_on, stability_start, stability_next, spinodals_at, liquid_on, vapor_on, critical_on, spinodals_begin, spinodals_next};
 
 use crate::critical::{critical_at, critical_begin, critical_next};
-use crate::types::{CriticalPlace, SpinodalsPlace, SpinodalsSpot, StabilityPlace, StabilitySpot};
+use crate::types::{CriticalSpot, SpinodalsSpot, StabilitySpot};
 use eos::Blend;
-use solver::{Answer, DensityInitialization, Refusal};
-use solver_critical::{StabilityOutcome, Start};
+use solver::{DensityInitialization, Progress, Refusal};
+use std::ops::ControlFlow;
 
 // where a round leads, `rounds` being left
 fn stability_on(rounds: u64, outcome: Progress<f64>) -> Progress<StabilitySpot>
@@ -34,7 +34,12 @@ fn stability_start(rho: f64) -> StabilitySpot
 }
 
 // the one evaluation of calculate_spinodal at a spot, and where it leads
-fn stability_next(blend: Blend, maxdensity: f64, t: f64, spot: StabilitySpot) -> Progress<StabilitySpot>
+fn stability_next(
+    blend: Blend,
+    maxdensity: f64,
+    t: f64,
+    spot: StabilitySpot,
+) -> Progress<StabilitySpot>
     ensures { result ≡ stability_next maxdensity t (evaluated blend) spot }
 {
     let rho = spot.rho;
@@ -51,12 +56,13 @@ fn liquid_on(vapor: f64, place: Progress<StabilitySpot>) -> Progress<SpinodalsSp
 {
     match place {
         ControlFlow::Break(answer) => match answer {
-            Ok(liquid) => {
-                ControlFlow::Break(solver_critical::both_answer(vapor, liquid.first))
-            }
+            Ok(liquid) => { ControlFlow::Break(solver_critical::both_answer(vapor, liquid.first)) }
             Err(refusal) => ControlFlow::Break(Err(refusal)),
         },
-        ControlFlow::Continue(at) => ControlFlow::Continue(SpinodalsSpot::LiquidSpinodal { vapor, at }),
+        ControlFlow::Continue(at) => ControlFlow::Continue(SpinodalsSpot::LiquidSpinodal {
+            vapor,
+            at,
+        }),
     }
 }
 
@@ -73,7 +79,10 @@ fn vapor_on(critical: f64, place: Progress<StabilitySpot>) -> Progress<Spinodals
             }
             Err(refusal) => ControlFlow::Break(Err(refusal)),
         },
-        ControlFlow::Continue(at) => ControlFlow::Continue(SpinodalsSpot::VaporSpinodal { critical, at }),
+        ControlFlow::Continue(at) => ControlFlow::Continue(SpinodalsSpot::VaporSpinodal {
+            critical,
+            at,
+        }),
     }
 }
 
@@ -98,7 +107,12 @@ fn critical_on(maxdensity: f64, place: Progress<CriticalSpot>) -> Progress<Spino
 }
 
 // the one evaluation at a spot, and where it leads
-pub fn spinodals_next(blend: Blend, maxdensity: f64, t: f64, spot: SpinodalsSpot) -> Progress<SpinodalsSpot>
+pub fn spinodals_next(
+    blend: Blend,
+    maxdensity: f64,
+    t: f64,
+    spot: SpinodalsSpot,
+) -> Progress<SpinodalsSpot>
     ensures { result ≡ spinodals_next maxdensity t (evaluated blend) spot }
 {
     match spot {

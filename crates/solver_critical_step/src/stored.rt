@@ -2,11 +2,10 @@
 ghost use Rattle.std.specs.Prelude.{◌≡◌};
 ghost use Rattle.solver_critical_step.specs.Stored.{spot_numbers, critical_spot_numbers, critical_numbers, hkm_spot_by, critical_spot_by, critical_place_by, spinodals_numbers, stability_spot_by, spinodals_spot_by, spinodals_place_by};
 
-use crate::types::{
-    CriticalPlace, CriticalSpot, HkmSpot, SpinodalsPlace, SpinodalsSpot, StabilitySpot,
-};
-use solver::{Counters, Numbers, Values};
+use crate::types::{CriticalSpot, HkmSpot, SpinodalsSpot, StabilitySpot};
+use solver::{Counters, Numbers, Progress, Values};
 use solver_critical::Point;
+use std::ops::ControlFlow;
 
 fn spot_numbers(stage: u64, tag: u64, way: u64, rounds: u64, x: f64, y: f64) -> Numbers
     ensures { result ≡ spot_numbers stage tag way rounds x y }

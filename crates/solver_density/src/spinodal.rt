@@ -7,10 +7,11 @@ ghost use Rattle.solver.specs.Evaluated.{evaluated};
 ghost use Rattle.solver_density.specs.Spinodal.{capped, spinodal_step, spinodal_outcome, branch_start, on_branch, branch_answer, pressure_spinodal, pressure_spinodal_branch};
 ghost use Rattle.solver_density.specs.Rounds.{finite3, tested_outcome, spinodal_round};
 
-use crate::types::{Branch, Outcome};
+use crate::types::Branch;
 use eos::Blend;
 use evaluations::Pressure;
-use solver::{Answer, Ran, Refusal, Values};
+use solver::{Answer, Progress, Ran, Refusal, Values};
+use std::ops::ControlFlow;
 
 // `delta`, kept within `most` in size
 pub fn cap(most: f64, delta: f64) -> f64

@@ -16,8 +16,7 @@ use Rattle.solver.specs.Answer.{Progress}
 use Rattle.solver_step.specs.declared.types.SpinodalSpot.{SpinodalSpot}
 use Rattle.std.specs.declared.ops.ControlFlow.TheVariants.{Break, Continue}
 use Rattle.solver_step.specs.declared.types.DensitySpot.{DensitySpot}
-use Rattle.std.specs.declared.ops.ControlFlow.{ControlFlow}
-use Rattle.solver_step.specs.Phase.{Phase}
+use Rattle.solver_step.specs.Phase.{Phase, Standing}
 use Rattle.solver_step.specs.declared.types.StableSpot.{StableSpot}
 use Rattle.solver_step.specs.DensityStep.{phase_answer}
 use Rattle.solver_step.specs.Stored.{spot_numbers, spinodal_numbers, spinodal_spot_by, spinodal_place_by, phase_by, density_spot_numbers, density_spot_by, density_numbers, density_place_by, staged, stable_numbers, stable_spot_by, stable_place_by}
@@ -116,15 +115,15 @@ module _ (n : Numbers) (h : FitsBelow 200 n) where
 
 -- ---- a step
 module _ (ev : Evaluator) (s : State) (h : Fits s.numbers) where
-  density_fits : (c : Conditions) (p : ControlFlow Phase DensitySpot) → density_place_by s.numbers ≡ p → Fits (density_step c ev p s).numbers
+  density_fits : (c : Conditions) (p : Standing DensitySpot) → density_place_by s.numbers ≡ p → Fits (density_step c ev p s).numbers
   unfolding density_step
   density_fits c (Break a) e = h
-  density_fits c (Continue x) e = density_kept c ev x (subst (λ (p : ControlFlow Phase DensitySpot). Fits (density_numbers p)) e (density_read s.numbers h))
+  density_fits c (Continue x) e = density_kept c ev x (subst (λ (p : Standing DensitySpot). Fits (density_numbers p)) e (density_read s.numbers h))
 
-  stable_fits : (maxdensity t p : Float) (x : ControlFlow Phase StableSpot) → stable_place_by s.numbers ≡ x → Fits (stable_step maxdensity t p ev x s).numbers
+  stable_fits : (maxdensity t p : Float) (x : Standing StableSpot) → stable_place_by s.numbers ≡ x → Fits (stable_step maxdensity t p ev x s).numbers
   unfolding stable_step
   stable_fits maxdensity t p (Break a) e = h
-  stable_fits maxdensity t p (Continue x) e = stable_kept maxdensity t p ev x (subst (λ (p : ControlFlow Phase StableSpot). Fits (stable_numbers p)) e (stable_read s.numbers h))
+  stable_fits maxdensity t p (Continue x) e = stable_kept maxdensity t p ev x (subst (λ (p : Standing StableSpot). Fits (stable_numbers p)) e (stable_read s.numbers h))
 
   spinodal_fits : (maxdensity t : Float) (p : Progress SpinodalSpot) → spinodal_place_by s.numbers ≡ p → Fits (spinodal_step maxdensity t ev p s).numbers
   unfolding spinodal_step

@@ -16,8 +16,7 @@ use Rattle.solver_binary.proofs.Spans.{temperature_200, pressure_200}
 use Rattle.solver.specs.Answer.{Progress}
 use Rattle.solver_step.specs.declared.types.SpinodalSpot.{SpinodalSpot}
 use Rattle.std.specs.declared.ops.ControlFlow.TheVariants.{Break, Continue}
-use Rattle.std.specs.declared.ops.ControlFlow.{ControlFlow}
-use Rattle.solver_step.specs.Phase.{Phase}
+use Rattle.solver_step.specs.Phase.{Phase, Standing}
 use Rattle.solver_step.specs.declared.types.DensitySpot.{DensitySpot}
 use Rattle.solver_step.specs.declared.types.StableSpot.{StableSpot}
 use Rattle.solver_step.specs.SpinodalStep.{spinodal_start, spinodal_left, branch_begin, branch_left}
@@ -66,12 +65,12 @@ module _ (ev : Evaluator) (s : State) where
   abbrev d : Float
   d = s.latest
 
-  density_step_lem : (c : Conditions) (p : ControlFlow Phase DensitySpot) → density_place_by s.numbers ≡ p → going (Density c) (density_step c ev p s) ≡ next_of finite_of ev (density_left c p) n d
+  density_step_lem : (c : Conditions) (p : Standing DensitySpot) → density_place_by s.numbers ≡ p → going (Density c) (density_step c ev p s) ≡ next_of finite_of ev (density_left c p) n d
   unfolding going left_of density_step density_left next_of
   density_step_lem c (Break a) e = stays (density_left c) s _ (Break a) e
   density_step_lem c (Continue x) e = kept (density_left c) density_place_by density_numbers density_back n (density_at c x) _ _ (density_law c ev x n d)
 
-  stable_step_lem : (maxdensity t p : Float) (x : ControlFlow Phase StableSpot) → stable_place_by s.numbers ≡ x
+  stable_step_lem : (maxdensity t p : Float) (x : Standing StableSpot) → stable_place_by s.numbers ≡ x
       → going (StableDensity maxdensity t p) (stable_step maxdensity t p ev x s) ≡ next_of finite_of ev (stable_left maxdensity t p x) n d
   unfolding going left_of stable_step stable_left next_of
   stable_step_lem maxdensity t p (Break a) e = stays (stable_left maxdensity t p) s _ (Break a) e

@@ -14,8 +14,7 @@ use Rattle.solver_binary.specs.CriticalPointBinary.{critical_point_binary_t, cri
 use Rattle.solver.specs.Answer.{Progress}
 use Rattle.solver_step.specs.declared.types.SpinodalSpot.{SpinodalSpot}
 use Rattle.std.specs.declared.ops.ControlFlow.TheVariants.{Break, Continue}
-use Rattle.std.specs.declared.ops.ControlFlow.{ControlFlow}
-use Rattle.solver_step.specs.Phase.{Phase}
+use Rattle.solver_step.specs.Phase.{Phase, Standing}
 use Rattle.solver_step.specs.declared.types.DensitySpot.{DensitySpot}
 use Rattle.solver_step.specs.declared.types.StableSpot.{StableSpot}
 use Rattle.solver_step.specs.SpinodalStep.{spinodal_start, spinodal_left, spinodal_next, branch_begin, branch_left, branch_next}
@@ -103,11 +102,11 @@ start_of job = record { numbers = begin_of job; evaluations = 0; latest = f0 }
 abbrev pub stepped_to : Numbers → Float → State → State
 stepped_to n ρ s = record { numbers = n; evaluations = s.evaluations + 1; latest = ρ }
 
-unfoldable pub density_step : Conditions → Evaluator → ControlFlow Phase DensitySpot → State → State
+unfoldable pub density_step : Conditions → Evaluator → Standing DensitySpot → State → State
 density_step c ev (Break a) s = s
 density_step c ev (Continue x) s = stepped_to (density_numbers (density_next c ev x)) (density_at c x) s
 
-unfoldable pub stable_step : (maxdensity t p : Float) → Evaluator → ControlFlow Phase StableSpot → State → State
+unfoldable pub stable_step : (maxdensity t p : Float) → Evaluator → Standing StableSpot → State → State
 stable_step maxdensity t p ev (Break a) s = s
 stable_step maxdensity t p ev (Continue x) s = stepped_to (stable_numbers (stable_next maxdensity t p ev x)) (stable_at maxdensity t p x) s
 

@@ -9,10 +9,8 @@ ghost use Rattle.solver_state.specs.State.{begin_of, start_of, density_step, sta
 use crate::types::{Job, State};
 use eos::Blend;
 use solver::Numbers;
-use solver_binary_step::{PressurePlace, TemperaturePlace};
-use solver_critical_step::{CriticalPlace, SpinodalsPlace};
 use solver_density::{Branch, Conditions};
-use solver_step::{DensityPlace, SpinodalPlace, StablePlace};
+use std::ops::ControlFlow;
 
 fn begin(job: Job) -> Numbers
     ensures { result ≡ begin_of job }

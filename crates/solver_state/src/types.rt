@@ -1,6 +1,5 @@
 // A job's search, and a search under way as a board keeps it.
 use solver::Numbers;
-use solver_critical::Start;
 use solver_density::{Branch, Conditions};
 
 // What the search of each kind works with beside the blend, z0 and z1 being the fractions.

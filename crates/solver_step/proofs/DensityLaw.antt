@@ -28,8 +28,7 @@ use Rattle.std.specs.declared.ops.ControlFlow.TheVariants.{Break, Continue}
 use Rattle.std.specs.Prelude.{Ok, Err}
 use Rattle.solver_step.specs.declared.types.DensitySpot.{DensitySpot}
 use Rattle.solver_step.specs.declared.types.DensitySpot.TheVariants.{First, Slope, Curvature, NearestSpinodal, LiquidSpinodal, VaporSpinodal}
-use Rattle.std.specs.declared.ops.ControlFlow.{ControlFlow}
-use Rattle.solver_step.specs.Phase.{Phase}
+use Rattle.solver_step.specs.Phase.{Phase, Standing}
 use Rattle.solver_step.specs.SpinodalStep.{spinodal_start, resume_spinodal, spinodal_left, branch_begin, resume_branch, branch_left}
 use Rattle.solver_step.specs.DensityStep.{phase_answer, slope_at, arrived_at, slope_on, go_on, resume_density, density_left, density_at, first_on, nearest_on, vapor_on, liquid_on, detour_at, curvature_on, density_next, density_begin}
 use Rattle.solver_step.proofs.SpinodalLaw.{spinodal_law, spinodal_begins, spinodal_asks2, branch_law, branch_begins, branch_asks2}
@@ -48,7 +47,7 @@ next_bind2 ev t f g n d u ρ e =
     ∙ ap (moved n ρ) (settle_bind finite_of (bind u f) g)
 
 module _ (c : Conditions) where
-  abbrev left : ControlFlow Phase DensitySpot → Search
+  abbrev left : Standing DensitySpot → Search
   left = density_left c
 
   slope_at_lem : (n : ℕ) (ρ : Float) → left (slope_at n ρ) ≡ settled (density_from c n ρ)

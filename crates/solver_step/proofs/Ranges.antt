@@ -30,11 +30,10 @@ use Rattle.solver_density.specs.Density.{detour_of, after_nearest}
 use Rattle.solver_density.specs.Rounds.{finite3}
 use Rattle.solver_density.specs.Spinodal.{branch_start}
 use Rattle.solver_step.specs.declared.types.SpinodalSpot.{SpinodalSpot}
-use Rattle.solver_step.specs.Phase.{Phase}
+use Rattle.solver_step.specs.Phase.{Phase, Standing}
 use Rattle.std.specs.Prelude.{Ok, Err}
 use Rattle.solver_step.specs.declared.types.DensitySpot.{DensitySpot}
 use Rattle.solver_step.specs.declared.types.DensitySpot.TheVariants.{First, Slope, Curvature, NearestSpinodal, LiquidSpinodal, VaporSpinodal}
-use Rattle.std.specs.declared.ops.ControlFlow.{ControlFlow}
 use Rattle.solver_step.specs.declared.types.StableSpot.{StableSpot}
 use Rattle.solver_step.specs.declared.types.StableSpot.TheVariants.{LiquidSearch, VaporSearch, LiquidPotential, VaporPotential}
 use Rattle.solver_step.specs.SpinodalStep.{spinodal_on, spinodal_start, spinodal_next, branch_place, branch_begin, branch_next}
@@ -68,7 +67,7 @@ branch_few branch (Break (Answer.Refused r)) f = Few.ended
 branch_few branch (Continue s) f = f
 
 -- ---- density searches: fewer than 50 rounds left, and so in the spinodal search of a detour
-data Bounded : ControlFlow Phase DensitySpot → Type 0 where
+data Bounded : Standing DensitySpot → Type 0 where
   ended : {p : Phase} → Bounded (Break p)
   first : Bounded (Continue First)
   slope : {n : ℕ} {ρ : Float} → n < 50 → Bounded (Continue (Slope n ρ))
@@ -229,7 +228,7 @@ unstaged (NearestSpinodal n way s) = refl
 unstaged (LiquidSpinodal n way s) = refl
 unstaged (VaporSpinodal n way ρl s) = refl
 
-density_fits : (p : ControlFlow Phase DensitySpot) → Bounded p → Fits (density_numbers p)
+density_fits : (p : Standing DensitySpot) → Bounded p → Fits (density_numbers p)
 unfolding density_numbers status_fits
 density_fits (Break p) w = ended_fits (phase_answer p)
 density_fits (Continue s) w = rw unstaged at (spot_fits 0 0 f0 (omega arith) refl s w)
@@ -253,7 +252,7 @@ phases_fit (Ok l) (Err r) = ended_fits _
 phases_fit (Err q) (Ok v) = ended_fits _
 phases_fit (Err q) (Err r) = ended_fits _
 
-vapor_fits : (liquid : Phase) (p : ControlFlow Phase DensitySpot) → Bounded p → Fits (stable_numbers (vapor_search_on liquid p))
+vapor_fits : (liquid : Phase) (p : Standing DensitySpot) → Bounded p → Fits (stable_numbers (vapor_search_on liquid p))
 unfolding vapor_search_on stable_numbers
 vapor_fits liquid (Break vapor) w = phases_fit liquid vapor
 vapor_fits liquid (Continue s) w = spot_fits 2 (status_of (phase_answer liquid)) _ (omega arith) (status_fits_lem (phase_answer liquid)) s w
@@ -269,7 +268,7 @@ vapor_potential_fits ρ true = ended_fits _
 vapor_potential_fits ρ false = ended_fits _
 
 module _ (maxdensity t p : Float) where
-  liquid_fits : (x : ControlFlow Phase DensitySpot) → Bounded x → Fits (stable_numbers (liquid_search_on maxdensity t p x))
+  liquid_fits : (x : Standing DensitySpot) → Bounded x → Fits (stable_numbers (liquid_search_on maxdensity t p x))
   unfolding liquid_search_on stable_numbers status_fits
   liquid_fits (Break liquid) w = go (lt p (maxdensity ⊗ t))
     where

@@ -12,9 +12,8 @@ use Rattle.solver.proofs.Steps.{settle_bind, settle_tested, moved, next_bind, se
 use Rattle.solver_density.specs.declared.types.Conditions.{Conditions}
 use Rattle.solver_density.specs.Density.{density_search, density_iteration}
 use Rattle.solver_density.specs.Stable.{lower_potential, vapor_potential, potentials, stable_phase, after_liquid, density_iteration_stable}
-use Rattle.solver_step.specs.Phase.{Phase}
+use Rattle.solver_step.specs.Phase.{Phase, Standing}
 use Rattle.std.specs.Prelude.{Ok, Err}
-use Rattle.std.specs.declared.ops.ControlFlow.{ControlFlow}
 use Rattle.solver_step.specs.declared.types.DensitySpot.{DensitySpot}
 use Rattle.std.specs.declared.ops.ControlFlow.TheVariants.{Break, Continue}
 use Rattle.solver_step.specs.declared.types.StableSpot.{StableSpot}
@@ -28,7 +27,7 @@ phase_begins : (c : Conditions) (f : Answer → Search) → settled (bind (densi
 phase_begins c f = ap (λ (x : Search). settled (bind x f)) (density_begins c) ∙ settle_bind finite_of (density_search c) f
 
 module _ (maxdensity t p : Float) where
-  abbrev left : ControlFlow Phase StableSpot → Search
+  abbrev left : Standing StableSpot → Search
   left = stable_left maxdensity t p
 
   phases_on_lem : (liquid vapor : Phase) → left (phases_on liquid vapor) ≡ settled (stable_phase t (phase_answer liquid) (phase_answer vapor))
@@ -38,12 +37,12 @@ module _ (maxdensity t p : Float) where
   phases_on_lem (Err q) (Ok v) = refl
   phases_on_lem (Err q) (Err r) = refl
 
-  vapor_on_lem : (liquid : Phase) (x : ControlFlow Phase DensitySpot) → left (vapor_search_on liquid x) ≡ settled (bind (density_left (of_vapor maxdensity t p) x) (stable_phase t (phase_answer liquid)))
+  vapor_on_lem : (liquid : Phase) (x : Standing DensitySpot) → left (vapor_search_on liquid x) ≡ settled (bind (density_left (of_vapor maxdensity t p) x) (stable_phase t (phase_answer liquid)))
   unfolding stable_left resume_stable vapor_search_on density_left bind
   vapor_on_lem liquid (Break vapor) = phases_on_lem liquid vapor
   vapor_on_lem liquid (Continue s) = sym (density_asks (of_vapor maxdensity t p) s (stable_phase t (phase_answer liquid)))
 
-  liquid_on_lem : (x : ControlFlow Phase DensitySpot) → left (liquid_search_on maxdensity t p x) ≡ settled (bind (density_left (of_liquid maxdensity t p) x) (after_liquid maxdensity t p))
+  liquid_on_lem : (x : Standing DensitySpot) → left (liquid_search_on maxdensity t p x) ≡ settled (bind (density_left (of_liquid maxdensity t p) x) (after_liquid maxdensity t p))
   unfolding stable_left resume_stable liquid_search_on density_left bind after_liquid settle density_iteration
   liquid_on_lem (Break liquid) = go (lt p (maxdensity ⊗ t))
     where

@@ -15,11 +15,10 @@ use Rattle.solver_density.specs.declared.types.Both.TheVariants.{BelowConvex, Ab
 use Rattle.solver.specs.Answer.{Progress}
 use Rattle.solver_step.specs.declared.types.SpinodalSpot.{SpinodalSpot}
 use Rattle.std.specs.declared.ops.ControlFlow.TheVariants.{Break, Continue}
-use Rattle.solver_step.specs.Phase.{Phase}
+use Rattle.solver_step.specs.Phase.{Phase, Standing}
 use Rattle.std.specs.Prelude.{Ok, Err}
 use Rattle.solver_step.specs.declared.types.DensitySpot.{DensitySpot}
 use Rattle.solver_step.specs.declared.types.DensitySpot.TheVariants.{First, Slope, Curvature, NearestSpinodal, LiquidSpinodal, VaporSpinodal}
-use Rattle.std.specs.declared.ops.ControlFlow.{ControlFlow}
 use Rattle.solver_step.specs.declared.types.StableSpot.TheVariants.{LiquidSearch, VaporSearch, LiquidPotential, VaporPotential}
 use Rattle.solver_step.specs.declared.types.StableSpot.{StableSpot}
 use Rattle.solver_step.specs.DensityStep.{phase_answer}
@@ -63,7 +62,7 @@ spot_tag (NearestSpinodal n way s) = refl
 spot_tag (LiquidSpinodal n way s) = refl
 spot_tag (VaporSpinodal n way ρl s) = refl
 
-pub density_back : (p : ControlFlow Phase DensitySpot) → density_place_by (density_numbers p) ≡ p
+pub density_back : (p : Standing DensitySpot) → density_place_by (density_numbers p) ≡ p
 unfolding density_place_by density_numbers ended_numbers
 density_back (Break p) = ap Break (phase_back p)
 density_back (Continue s) = rw (spot_tag s) (ap Continue (density_spot_back s))
@@ -73,7 +72,7 @@ staged_spot : (stage status : ℕ) (z : Float) (n : Numbers) → density_spot_by
 unfolding density_spot_by spinodal_spot_by staged
 staged_spot stage status z n = refl
 
-pub stable_back : (p : ControlFlow Phase StableSpot) → stable_place_by (stable_numbers p) ≡ p
+pub stable_back : (p : Standing StableSpot) → stable_place_by (stable_numbers p) ≡ p
 unfolding stable_place_by stable_spot_by stable_numbers ended_numbers potential_numbers staged
 stable_back (Break p) = ap Break (phase_back p)
 stable_back (Continue (LiquidSearch s)) = ap (λ (x : DensitySpot). Continue (LiquidSearch x)) (staged_spot 1 0 f0 (density_spot_numbers s) ∙ density_spot_back s)

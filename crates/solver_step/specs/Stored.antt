@@ -11,11 +11,10 @@ use Rattle.solver_density.specs.declared.types.Both.TheVariants.{BelowConvex, Ab
 use Rattle.solver_step.specs.declared.types.SpinodalSpot.{SpinodalSpot}
 use Rattle.solver.specs.Answer.{Progress}
 use Rattle.std.specs.declared.ops.ControlFlow.TheVariants.{Break, Continue}
-use Rattle.solver_step.specs.Phase.{Phase}
+use Rattle.solver_step.specs.Phase.{Phase, Standing}
 use Rattle.std.specs.Prelude.{Ok, Err}
 use Rattle.solver_step.specs.declared.types.DensitySpot.{DensitySpot}
 use Rattle.solver_step.specs.declared.types.DensitySpot.TheVariants.{First, Slope, Curvature, NearestSpinodal, LiquidSpinodal, VaporSpinodal}
-use Rattle.std.specs.declared.ops.ControlFlow.{ControlFlow}
 use Rattle.solver_step.specs.declared.types.StableSpot.{StableSpot}
 use Rattle.solver_step.specs.declared.types.StableSpot.TheVariants.{LiquidSearch, VaporSearch, LiquidPotential, VaporPotential}
 use Rattle.solver_step.specs.DensityStep.{phase_answer}
@@ -76,11 +75,11 @@ density_spot_by n =
     (cond (eqb n.counters.tag 5) (LiquidSpinodal n.counters.left (both_by n.counters.way) (spinodal_spot_by n))
     (VaporSpinodal n.counters.left (both_by n.counters.way) n.values.second (spinodal_spot_by n))))))
 
-unfoldable pub density_numbers : ControlFlow Phase DensitySpot → Numbers
+unfoldable pub density_numbers : Standing DensitySpot → Numbers
 density_numbers (Break p) = ended_numbers (phase_answer p)
 density_numbers (Continue s) = density_spot_numbers s
 
-unfoldable pub density_place_by : Numbers → ControlFlow Phase DensitySpot
+unfoldable pub density_place_by : Numbers → Standing DensitySpot
 density_place_by n = cond (eqb n.counters.tag 0) (Break (phase_by n.counters.status n.values.first)) (Continue (density_spot_by n))
 
 -- ---- kind 2: stage 0 is the end, 1 the liquid's search, 2 the vapour's with the liquid's end beside it, 3 and 4 the potentials
@@ -99,7 +98,7 @@ potential_numbers stage x y z =
       values = record { first = x; second = y; third = z };
     }
 
-unfoldable pub stable_numbers : ControlFlow Phase StableSpot → Numbers
+unfoldable pub stable_numbers : Standing StableSpot → Numbers
 stable_numbers (Break p) = ended_numbers (phase_answer p)
 stable_numbers (Continue (LiquidSearch s)) = staged 1 0 f0 (density_spot_numbers s)
 stable_numbers (Continue (VaporSearch liquid s)) = staged 2 (status_of (phase_answer liquid)) (values_of (phase_answer liquid)).first (density_spot_numbers s)
@@ -112,5 +111,5 @@ stable_spot_by n =
     (cond (eqb n.counters.stage 2) (VaporSearch (phase_by n.counters.status n.values.third) (density_spot_by n))
     (cond (eqb n.counters.stage 3) (LiquidPotential n.values.first n.values.second) (VaporPotential n.values.first n.values.second n.values.third)))
 
-unfoldable pub stable_place_by : Numbers → ControlFlow Phase StableSpot
+unfoldable pub stable_place_by : Numbers → Standing StableSpot
 stable_place_by n = cond (eqb n.counters.stage 0) (Break (phase_by n.counters.status n.values.first)) (Continue (stable_spot_by n))

@@ -4,11 +4,12 @@ ghost use Rattle.solver.specs.Evaluated.{evaluated};
 ghost use Rattle.solver_step.specs.DensityStep.{phase_answer, slope_at, arrived_at, slope_on, density_at, first_on, nearest_on, vapor_on, liquid_on, detour_at, curvature_on, density_next, density_begin};
 
 use crate::spinodal::{branch_begin, branch_next, spinodal_next, spinodal_start};
-use crate::types::{DensityPlace, DensitySpot, Phase, SpinodalPlace};
+use crate::types::{DensitySpot, Phase, SpinodalSpot, Standing};
 use eos::Blend;
 use evaluations::Pressure;
-use solver::{Answer, Refusal};
+use solver::{Answer, Progress, Refusal};
 use solver_density::{Both, Branch, Conditions, Detour, Nearest, SlopeOutcome};
+use std::ops::ControlFlow;
 
 // how a density search ended, as an answer
 pub fn phase_answer(phase: Phase) -> Answer
@@ -21,7 +22,7 @@ pub fn phase_answer(phase: Phase) -> Answer
 }
 
 // the next round, `left` being left with it
-fn slope_at(left: u64, rho: f64) -> ControlFlow<Phase, DensitySpot>
+fn slope_at(left: u64, rho: f64) -> Standing<DensitySpot>
     ensures { result ≡ slope_at left rho }
 {
     if left == 0 {
@@ -34,7 +35,7 @@ fn slope_at(left: u64, rho: f64) -> ControlFlow<Phase, DensitySpot>
 }
 
 // a detour's end
-fn arrived_at(left: u64, answer: Answer) -> ControlFlow<Phase, DensitySpot>
+fn arrived_at(left: u64, answer: Answer) -> Standing<DensitySpot>
     ensures { result ≡ arrived_at left answer }
 {
     match answer {
@@ -44,7 +45,7 @@ fn arrived_at(left: u64, answer: Answer) -> ControlFlow<Phase, DensitySpot>
 }
 
 // where a round at rho leads, `left` being left after it
-fn slope_on(left: u64, rho: f64, outcome: SlopeOutcome) -> ControlFlow<Phase, DensitySpot>
+fn slope_on(left: u64, rho: f64, outcome: SlopeOutcome) -> Standing<DensitySpot>
     ensures { result ≡ slope_on left rho outcome }
 {
     match outcome {
@@ -60,7 +61,7 @@ fn slope_on(left: u64, rho: f64, outcome: SlopeOutcome) -> ControlFlow<Phase, De
 }
 
 // where the first round leads
-fn first_on(c: Conditions, outcome: SlopeOutcome) -> ControlFlow<Phase, DensitySpot>
+fn first_on(c: Conditions, outcome: SlopeOutcome) -> Standing<DensitySpot>
     ensures { result ≡ first_on c outcome }
 {
     match outcome {
@@ -75,7 +76,12 @@ fn first_on(c: Conditions, outcome: SlopeOutcome) -> ControlFlow<Phase, DensityS
 }
 
 // where the nearest spinodal's search stands, or what it leads to
-fn nearest_on(c: Conditions, left: u64, way: Nearest, place: Progress<SpinodalSpot>) -> ControlFlow<Phase, DensitySpot>
+fn nearest_on(
+    c: Conditions,
+    left: u64,
+    way: Nearest,
+    place: Progress<SpinodalSpot>,
+) -> Standing<DensitySpot>
     ensures { result ≡ nearest_on c left way place }
 {
     match place {
@@ -83,11 +89,21 @@ fn nearest_on(c: Conditions, left: u64, way: Nearest, place: Progress<SpinodalSp
             Ok(sp) => arrived_at(left, solver_density::after_nearest(c, way, sp)),
             Err(refusal) => ControlFlow::Break(Err(refusal)),
         },
-        ControlFlow::Continue(at) => ControlFlow::Continue(DensitySpot::NearestSpinodal { left, way, at }),
+        ControlFlow::Continue(at) => ControlFlow::Continue(DensitySpot::NearestSpinodal {
+            left,
+            way,
+            at,
+        }),
     }
 }
 
-fn vapor_on(c: Conditions, left: u64, way: Both, liquid: f64, place: Progress<SpinodalSpot>) -> ControlFlow<Phase, DensitySpot>
+fn vapor_on(
+    c: Conditions,
+    left: u64,
+    way: Both,
+    liquid: f64,
+    place: Progress<SpinodalSpot>,
+) -> Standing<DensitySpot>
     ensures { result ≡ vapor_on c left way liquid place }
 {
     match place {
@@ -104,7 +120,12 @@ fn vapor_on(c: Conditions, left: u64, way: Both, liquid: f64, place: Progress<Sp
     }
 }
 
-fn liquid_on(c: Conditions, left: u64, way: Both, place: Progress<SpinodalSpot>) -> ControlFlow<Phase, DensitySpot>
+fn liquid_on(
+    c: Conditions,
+    left: u64,
+    way: Both,
+    place: Progress<SpinodalSpot>,
+) -> Standing<DensitySpot>
     ensures { result ≡ liquid_on c left way place }
 {
     match place {
@@ -115,12 +136,16 @@ fn liquid_on(c: Conditions, left: u64, way: Both, place: Progress<SpinodalSpot>)
             }
             Err(refusal) => ControlFlow::Break(Err(refusal)),
         },
-        ControlFlow::Continue(at) => ControlFlow::Continue(DensitySpot::LiquidSpinodal { left, way, at }),
+        ControlFlow::Continue(at) => ControlFlow::Continue(DensitySpot::LiquidSpinodal {
+            left,
+            way,
+            at,
+        }),
     }
 }
 
 // a detour begins
-fn detour_at(c: Conditions, left: u64, detour: Detour) -> ControlFlow<Phase, DensitySpot>
+fn detour_at(c: Conditions, left: u64, detour: Detour) -> Standing<DensitySpot>
     ensures { result ≡ detour_at c left detour }
 {
     match detour {
@@ -129,7 +154,13 @@ fn detour_at(c: Conditions, left: u64, detour: Detour) -> ControlFlow<Phase, Den
     }
 }
 
-fn curvature_on(c: Conditions, left: u64, rho: f64, error: f64, y: Pressure) -> ControlFlow<Phase, DensitySpot>
+fn curvature_on(
+    c: Conditions,
+    left: u64,
+    rho: f64,
+    error: f64,
+    y: Pressure,
+) -> Standing<DensitySpot>
     ensures { result ≡ curvature_on c left rho error y }
 {
     if solver_density::all_finite(y) {
@@ -140,7 +171,7 @@ fn curvature_on(c: Conditions, left: u64, rho: f64, error: f64, y: Pressure) -> 
 }
 
 // the one evaluation at a spot, and where it leads
-pub fn density_next(blend: Blend, c: Conditions, spot: DensitySpot) -> ControlFlow<Phase, DensitySpot>
+pub fn density_next(blend: Blend, c: Conditions, spot: DensitySpot) -> Standing<DensitySpot>
     ensures { result ≡ density_next c (evaluated blend) spot }
 {
     let maxdensity = c.maxdensity;
@@ -217,7 +248,7 @@ pub fn density_at(c: Conditions, spot: DensitySpot) -> f64
 }
 
 // where a search begins
-pub fn density_begin(c: Conditions) -> ControlFlow<Phase, DensitySpot>
+pub fn density_begin(c: Conditions) -> Standing<DensitySpot>
     ensures { result ≡ density_begin c }
 {
     let start = c.start;

@@ -3,10 +3,11 @@ ghost use Rattle.std.specs.Prelude.{◌≡◌};
 ghost use Rattle.solver.specs.Evaluated.{evaluated};
 ghost use Rattle.solver_step.specs.SpinodalStep.{spinodal_on, spinodal_start, spinodal_next, branch_place, branch_begin, branch_next};
 
-use crate::types::{SpinodalPlace, SpinodalSpot};
+use crate::types::SpinodalSpot;
 use eos::Blend;
-use solver::{Answer, Refusal};
-use solver_density::{Branch, Outcome};
+use solver::{Progress, Refusal};
+use solver_density::Branch;
+use std::ops::ControlFlow;
 
 // where a round leads, `rounds` being left
 fn spinodal_on(rounds: u64, outcome: Progress<f64>) -> Progress<SpinodalSpot>
@@ -37,7 +38,12 @@ pub fn spinodal_start(rho: f64) -> Progress<SpinodalSpot>
 }
 
 // the one evaluation at a spot, and where it leads
-pub fn spinodal_next(blend: Blend, maxdensity: f64, t: f64, spot: SpinodalSpot) -> Progress<SpinodalSpot>
+pub fn spinodal_next(
+    blend: Blend,
+    maxdensity: f64,
+    t: f64,
+    spot: SpinodalSpot,
+) -> Progress<SpinodalSpot>
     ensures { result ≡ spinodal_next maxdensity t (evaluated blend) spot }
 {
     let rho = spot.rho;
@@ -54,9 +60,7 @@ fn branch_place(branch: Branch, place: Progress<SpinodalSpot>) -> Progress<Spino
 {
     match place {
         ControlFlow::Break(answer) => match answer {
-            Ok(found) => ControlFlow::Break(solver_density::branch_answer(
-                branch, found,
-            )),
+            Ok(found) => ControlFlow::Break(solver_density::branch_answer(branch, found)),
             Err(refusal) => ControlFlow::Break(Err(refusal)),
         },
         ControlFlow::Continue(spot) => ControlFlow::Continue(spot),

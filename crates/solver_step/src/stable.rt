@@ -4,12 +4,13 @@ ghost use Rattle.solver.specs.Evaluated.{evaluated};
 ghost use Rattle.solver_step.specs.StableStep.{phases_on, vapor_search_on, liquid_potential_on, vapor_potential_on, stable_at, liquid_search_on, stable_next, stable_begin};
 
 use crate::density::{density_at, density_begin, density_next};
-use crate::types::{DensityPlace, Phase, StablePlace, StableSpot};
+use crate::types::{DensitySpot, Phase, StableSpot, Standing};
 use eos::Blend;
 use solver::{DensityInitialization, Refusal};
+use std::ops::ControlFlow;
 
 // both phases searched: the potentials are next, or the end
-fn phases_on(liquid: Phase, vapor: Phase) -> ControlFlow<Phase, StableSpot>
+fn phases_on(liquid: Phase, vapor: Phase) -> Standing<StableSpot>
     ensures { result ≡ phases_on liquid vapor }
 {
     match liquid {
@@ -27,7 +28,7 @@ fn phases_on(liquid: Phase, vapor: Phase) -> ControlFlow<Phase, StableSpot>
     }
 }
 
-fn vapor_search_on(liquid: Phase, place: ControlFlow<Phase, DensitySpot>) -> ControlFlow<Phase, StableSpot>
+fn vapor_search_on(liquid: Phase, place: Standing<DensitySpot>) -> Standing<StableSpot>
     ensures { result ≡ vapor_search_on liquid place }
 {
     match place {
@@ -36,7 +37,12 @@ fn vapor_search_on(liquid: Phase, place: ControlFlow<Phase, DensitySpot>) -> Con
     }
 }
 
-fn liquid_search_on(maxdensity: f64, t: f64, p: f64, place: ControlFlow<Phase, DensitySpot>) -> ControlFlow<Phase, StableSpot>
+fn liquid_search_on(
+    maxdensity: f64,
+    t: f64,
+    p: f64,
+    place: Standing<DensitySpot>,
+) -> Standing<StableSpot>
     ensures { result ≡ liquid_search_on maxdensity t p place }
 {
     match place {
@@ -51,7 +57,7 @@ fn liquid_search_on(maxdensity: f64, t: f64, p: f64, place: ControlFlow<Phase, D
     }
 }
 
-fn liquid_potential_on(liquid: f64, vapor: f64, potential: f64) -> ControlFlow<Phase, StableSpot>
+fn liquid_potential_on(liquid: f64, vapor: f64, potential: f64) -> Standing<StableSpot>
     ensures { result ≡ liquid_potential_on liquid vapor potential }
 {
     if float::is_finite(potential) {
@@ -64,7 +70,12 @@ fn liquid_potential_on(liquid: f64, vapor: f64, potential: f64) -> ControlFlow<P
     ControlFlow::Break(Err(Refusal::NotFinite))
 }
 
-fn vapor_potential_on(liquid: f64, vapor: f64, of_liquid: f64, of_vapor: f64) -> ControlFlow<Phase, StableSpot>
+fn vapor_potential_on(
+    liquid: f64,
+    vapor: f64,
+    of_liquid: f64,
+    of_vapor: f64,
+) -> Standing<StableSpot>
     ensures { result ≡ vapor_potential_on liquid vapor of_liquid of_vapor }
 {
     if float::is_finite(of_vapor) {
@@ -77,7 +88,13 @@ fn vapor_potential_on(liquid: f64, vapor: f64, of_liquid: f64, of_vapor: f64) ->
 }
 
 // the one evaluation at a spot, and where it leads
-pub fn stable_next(blend: Blend, maxdensity: f64, t: f64, p: f64, spot: StableSpot) -> ControlFlow<Phase, StableSpot>
+pub fn stable_next(
+    blend: Blend,
+    maxdensity: f64,
+    t: f64,
+    p: f64,
+    spot: StableSpot,
+) -> Standing<StableSpot>
     ensures { result ≡ stable_next maxdensity t p (evaluated blend) spot }
 {
     match spot {
@@ -132,7 +149,7 @@ pub fn stable_at(maxdensity: f64, t: f64, p: f64, spot: StableSpot) -> f64
 }
 
 // where a search begins
-pub fn stable_begin(maxdensity: f64, t: f64, p: f64) -> ControlFlow<Phase, StableSpot>
+pub fn stable_begin(maxdensity: f64, t: f64, p: f64) -> Standing<StableSpot>
     ensures { result ≡ stable_begin maxdensity t p }
 {
     let c = solver_density::conditions(maxdensity, t, p, DensityInitialization::Liquid);

@@ -3,11 +3,10 @@ ghost use Rattle.std.specs.Prelude.{◌≡◌};
 ghost use Rattle.solver_step.specs.Stored.{nearest_number, nearest_by, both_number, both_by, spot_numbers, spinodal_numbers, spinodal_spot_by, spinodal_place_by, phase_by, density_spot_numbers, density_spot_by, density_numbers, density_place_by, staged as staged_numbers, potential_numbers, stable_numbers, stable_spot_by, stable_place_by};
 
 use crate::density::phase_answer;
-use crate::types::{
-    DensityPlace, DensitySpot, Phase, SpinodalPlace, SpinodalSpot, StablePlace, StableSpot,
-};
-use solver::{Counters, Numbers, Values};
+use crate::types::{DensitySpot, Phase, SpinodalSpot, StableSpot, Standing};
+use solver::{Counters, Numbers, Progress, Values};
 use solver_density::{Both, Nearest};
+use std::ops::ControlFlow;
 
 fn nearest_number(way: Nearest) -> u64
     ensures { result ≡ nearest_number way }
@@ -172,7 +171,7 @@ fn density_spot_by(n: Numbers) -> DensitySpot
     }
 }
 
-pub fn density_numbers(place: ControlFlow<Phase, DensitySpot>) -> Numbers
+pub fn density_numbers(place: Standing<DensitySpot>) -> Numbers
     ensures { result ≡ density_numbers place }
 {
     match place {
@@ -181,7 +180,7 @@ pub fn density_numbers(place: ControlFlow<Phase, DensitySpot>) -> Numbers
     }
 }
 
-pub fn density_place_by(n: Numbers) -> ControlFlow<Phase, DensitySpot>
+pub fn density_place_by(n: Numbers) -> Standing<DensitySpot>
     ensures { result ≡ density_place_by n }
 {
     let counters = n.counters;
@@ -257,7 +256,7 @@ fn stable_spot_numbers(spot: StableSpot) -> Numbers
     }
 }
 
-pub fn stable_numbers(place: ControlFlow<Phase, StableSpot>) -> Numbers
+pub fn stable_numbers(place: Standing<StableSpot>) -> Numbers
     ensures { result ≡ stable_numbers place }
 {
     match place {
@@ -295,7 +294,7 @@ fn stable_spot_by(n: Numbers) -> StableSpot
     }
 }
 
-pub fn stable_place_by(n: Numbers) -> ControlFlow<Phase, StableSpot>
+pub fn stable_place_by(n: Numbers) -> Standing<StableSpot>
     ensures { result ≡ stable_place_by n }
 {
     let counters = n.counters;

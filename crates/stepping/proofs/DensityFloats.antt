@@ -36,10 +36,9 @@ use Rattle.solver_density.specs.Rounds.{finite3, tested_outcome, spinodal_round,
 use Rattle.solver_density.specs.Spinodal as Spinodal
 use Rattle.solver_density.specs.Spinodal.{spinodal_outcome, branch_start, on_branch, branch_answer}
 use Rattle.solver_step.specs.declared.types.SpinodalSpot.{SpinodalSpot}
-use Rattle.solver_step.specs.Phase.{Phase}
+use Rattle.solver_step.specs.Phase.{Phase, Standing}
 use Rattle.solver_step.specs.declared.types.DensitySpot.{DensitySpot}
 use Rattle.solver_step.specs.declared.types.DensitySpot.TheVariants.{First, Slope, Curvature, NearestSpinodal, LiquidSpinodal, VaporSpinodal}
-use Rattle.std.specs.declared.ops.ControlFlow.{ControlFlow}
 use Rattle.solver_step.specs.declared.types.StableSpot.{StableSpot}
 use Rattle.solver_step.specs.declared.types.StableSpot.TheVariants.{LiquidSearch, VaporSearch, LiquidPotential, VaporPotential}
 use Rattle.solver_step.specs.SpinodalStep.{spinodal_on, spinodal_start, spinodal_next, branch_place, branch_begin, branch_next}
@@ -176,7 +175,7 @@ module _ (maxdensity t : Float) (ev : Evaluator) (yields : YieldsFit ev) (s : Sp
 abbrev SpotFits : DensitySpot → Type 0
 SpotFits s = ValuesStorable (density_spot_numbers s).values
 
-abbrev DensityFits : ControlFlow Phase DensitySpot → Type 0
+abbrev DensityFits : Standing DensitySpot → Type 0
 DensityFits p = ValuesStorable (density_numbers p).values
 
 density_ended : (p : Phase) → PhaseFits p → DensityFits (Break p)
@@ -324,7 +323,7 @@ density_begin_fits c = cond_keeps DensityFits (le c.start f0) _ _ (failed StartN
 
 -- ---- kind 2: where the search of the stable phase stands
 
-abbrev StableFits : ControlFlow Phase StableSpot → Type 0
+abbrev StableFits : Standing StableSpot → Type 0
 StableFits p = ValuesStorable (stable_numbers p).values
 
 stable_ended : (p : Phase) → PhaseFits p → StableFits (Break p)
@@ -362,7 +361,7 @@ phases_fit (Ok l) (Err r) h k = stable_ended (Ok l) h
 phases_fit (Err q) (Ok v) h k = stable_ended (Ok v) k
 phases_fit (Err q) (Err r) h k = stable_ended (Err BothPhasesFailed) (failed_fits BothPhasesFailed)
 
-vapor_search_fits : (liquid : Phase) (p : ControlFlow Phase DensitySpot) → PhaseFits liquid → DensityFits p → StableFits (vapor_search_on liquid p)
+vapor_search_fits : (liquid : Phase) (p : Standing DensitySpot) → PhaseFits liquid → DensityFits p → StableFits (vapor_search_on liquid p)
 unfolding vapor_search_on stable_numbers density_numbers ended_numbers
 vapor_search_fits liquid (Break vapor) h k = phases_fit liquid vapor h k
 vapor_search_fits liquid (Continue s) h k = staged_fits 2 _ _ (density_spot_numbers s) h.first k
@@ -389,7 +388,7 @@ module _ (maxdensity t p : Float) (m : Fit maxdensity) (ht : Fit t) (hp : Fit p)
   of_vapor_lem : ConditionsFit (of_vapor maxdensity t p)
   of_vapor_lem = conditions_fit_lem maxdensity t p Initial.Vapor m ht hp (unfold Density.start_of in div-fits binary64 p t)
 
-  liquid_search_fits : (x : ControlFlow Phase DensitySpot) → DensityFits x → StableFits (liquid_search_on maxdensity t p x)
+  liquid_search_fits : (x : Standing DensitySpot) → DensityFits x → StableFits (liquid_search_on maxdensity t p x)
   unfolding liquid_search_on stable_numbers density_numbers ended_numbers
   liquid_search_fits (Break liquid) h =
       cond_keeps StableFits (lt p (maxdensity ⊗ t)) _ _ (vapor_search_fits liquid _ h (density_begin_fits (of_vapor maxdensity t p))) h
@@ -444,12 +443,12 @@ module _ (n : Numbers) (h : ValuesStorable n.values) where
 -- ---- a step, from where the numbers stand
 
 module _ (ev : Evaluator) (yields : YieldsFit ev) (s : State) (h : FloatsStorable s) where
-  density_step_fits : (c : Conditions) → ConditionsFit c → (x : ControlFlow Phase DensitySpot) → DensityFits x → FloatsStorable (density_step c ev x s)
+  density_step_fits : (c : Conditions) → ConditionsFit c → (x : Standing DensitySpot) → DensityFits x → FloatsStorable (density_step c ev x s)
   unfolding density_step density_numbers
   density_step_fits c fit (Break a) k = h
   density_step_fits c fit (Continue x) k = record { values = density_next_fits c fit ev yields x k; latest = density_at_fits c fit x k }
 
-  stable_step_fits : (maxdensity t p : Float) → Fit maxdensity → Fit t → Fit p → (x : ControlFlow Phase StableSpot) → StableFits x → FloatsStorable (stable_step maxdensity t p ev x s)
+  stable_step_fits : (maxdensity t p : Float) → Fit maxdensity → Fit t → Fit p → (x : Standing StableSpot) → StableFits x → FloatsStorable (stable_step maxdensity t p ev x s)
   unfolding stable_step
   stable_step_fits maxdensity t p m ht hp (Break a) k = h
   stable_step_fits maxdensity t p m ht hp (Continue x) k =

@@ -14,8 +14,7 @@ use Rattle.solver_critical.specs.CriticalPoint.{start_density}
 use Rattle.solver.specs.Answer.{Progress}
 use Rattle.solver_step.specs.declared.types.SpinodalSpot.{SpinodalSpot}
 use Rattle.std.specs.declared.ops.ControlFlow.TheVariants.{Break, Continue}
-use Rattle.std.specs.declared.ops.ControlFlow.{ControlFlow}
-use Rattle.solver_step.specs.Phase.{Phase}
+use Rattle.solver_step.specs.Phase.{Phase, Standing}
 use Rattle.solver_step.specs.declared.types.DensitySpot.{DensitySpot}
 use Rattle.solver_step.specs.declared.types.StableSpot.{StableSpot}
 use Rattle.solver_step.specs.SpinodalStep.{spinodal_start, spinodal_left, spinodal_next, branch_begin, branch_left, branch_next}
@@ -70,13 +69,13 @@ begin_again (CriticalPointBinaryP maxdensity z0 z1 p temperature density) = ap p
 
 -- and a step leads to the numbers of a place
 module _ (ev : Evaluator) (s : State) where
-  density_again : (c : Conditions) (p : ControlFlow Phase DensitySpot) → density_numbers (density_place_by s.numbers) ≡ s.numbers
+  density_again : (c : Conditions) (p : Standing DensitySpot) → density_numbers (density_place_by s.numbers) ≡ s.numbers
       → density_numbers (density_place_by (density_step c ev p s).numbers) ≡ (density_step c ev p s).numbers
   unfolding density_step
   density_again c (Break a) h = h
   density_again c (Continue x) h = ap density_numbers (density_back (density_next c ev x))
 
-  stable_again : (maxdensity t p : Float) (x : ControlFlow Phase StableSpot) → stable_numbers (stable_place_by s.numbers) ≡ s.numbers
+  stable_again : (maxdensity t p : Float) (x : Standing StableSpot) → stable_numbers (stable_place_by s.numbers) ≡ s.numbers
       → stable_numbers (stable_place_by (stable_step maxdensity t p ev x s).numbers) ≡ (stable_step maxdensity t p ev x s).numbers
   unfolding stable_step
   stable_again maxdensity t p (Break a) h = h
@@ -139,12 +138,12 @@ unfolding next_of
 not_done ev t ρ u a e q = let z : ◌≡◌ {A = ℕ} 0 1 = ap (λ (x : Search). (next_of finite_of ev x 0 f0).evaluations) (sym e) ∙ ap (λ (g : Going). g.evaluations) q in absurd (omega arith)
 
 module _ (ev : Evaluator) (n : Numbers) (a : Answer) where
-  density_ends : (c : Conditions) (p : ControlFlow Phase DensitySpot) → density_numbers p ≡ n → density_left c p ≡ done a → n ≡ ended_numbers a
+  density_ends : (c : Conditions) (p : Standing DensitySpot) → density_numbers p ≡ n → density_left c p ≡ done a → n ≡ ended_numbers a
   unfolding density_left density_numbers
   density_ends c (Break q) e l = sym e ∙ ap ended_numbers (done_same _ a l)
   density_ends c (Continue x) e l = absurd (not_done ev _ _ _ a l (density_law c ev x 0 f0))
 
-  stable_ends : (maxdensity t p : Float) (x : ControlFlow Phase StableSpot) → stable_numbers x ≡ n → stable_left maxdensity t p x ≡ done a → n ≡ ended_numbers a
+  stable_ends : (maxdensity t p : Float) (x : Standing StableSpot) → stable_numbers x ≡ n → stable_left maxdensity t p x ≡ done a → n ≡ ended_numbers a
   unfolding stable_left stable_numbers
   stable_ends maxdensity t p (Break q) e l = sym e ∙ ap ended_numbers (done_same _ a l)
   stable_ends maxdensity t p (Continue x) e l = absurd (not_done ev _ _ _ a l (stable_law maxdensity t p ev x 0 f0))

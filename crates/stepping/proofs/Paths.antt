@@ -13,8 +13,7 @@ use Rattle.solver_density.specs.declared.types.Conditions.{Conditions}
 use Rattle.solver.specs.Answer.{Progress}
 use Rattle.solver_step.specs.declared.types.SpinodalSpot.{SpinodalSpot}
 use Rattle.std.specs.declared.ops.ControlFlow.TheVariants.{Break, Continue}
-use Rattle.std.specs.declared.ops.ControlFlow.{ControlFlow}
-use Rattle.solver_step.specs.Phase.{Phase}
+use Rattle.solver_step.specs.Phase.{Phase, Standing}
 use Rattle.solver_step.specs.declared.types.DensitySpot.{DensitySpot}
 use Rattle.solver_step.specs.declared.types.StableSpot.{StableSpot}
 use Rattle.solver_critical_step.specs.declared.types.CriticalSpot.{CriticalSpot}
@@ -45,12 +44,12 @@ module _ (ev : Evaluator) (s : State) where
   ended_apart : s ≡ added s (uncounted s)
   ended_apart = rw (add-zero s.evaluations)
 
-  density_apart : (c : Conditions) (p : ControlFlow Phase DensitySpot) → density_step c ev p s ≡ added s (density_step c ev p (uncounted s))
+  density_apart : (c : Conditions) (p : Standing DensitySpot) → density_step c ev p s ≡ added s (density_step c ev p (uncounted s))
   unfolding density_step
   density_apart c (Break a) = ended_apart
   density_apart c (Continue x) = refl
 
-  stable_apart : (maxdensity t p : Float) (x : ControlFlow Phase StableSpot) → stable_step maxdensity t p ev x s ≡ added s (stable_step maxdensity t p ev x (uncounted s))
+  stable_apart : (maxdensity t p : Float) (x : Standing StableSpot) → stable_step maxdensity t p ev x s ≡ added s (stable_step maxdensity t p ev x (uncounted s))
   unfolding stable_step
   stable_apart maxdensity t p (Break a) = ended_apart
   stable_apart maxdensity t p (Continue x) = refl
