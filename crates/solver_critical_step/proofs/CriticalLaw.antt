@@ -73,8 +73,8 @@ module _ (maxdensity : Float) where
 
     from_temperature_lem : (temperature : Option Float) → critical_left maxdensity ρ (critical_begin ρ temperature) ≡ settled (from_temperature maxdensity temperature ρ)
     unfolding critical_begin from_temperature critical_left resume_critical resume_hkm hkm_start critical_point_hkm hkm_from settle
-    from_temperature_lem Start.None = trial_at_lem 0
-    from_temperature_lem (Start.Given t) = refl
+    from_temperature_lem None = trial_at_lem 0
+    from_temperature_lem (Some t) = refl
 
     pub critical_asks : (s : CriticalSpot) (f : Answer → Search) → settled (bind (resume_critical maxdensity ρ s) f) ≡ bind (resume_critical maxdensity ρ s) f
     unfolding settle bind resume_critical resume_hkm hkm_from

@@ -84,8 +84,8 @@ next_few maxdensity ρ ev (Trial i s) (trial w r) = trial_few ρ i s.rounds _ w 
 
 begin_few : (ρ : Float) (temperature : Option Float) → Few (critical_begin ρ temperature)
 unfolding critical_begin hkm_start
-begin_few ρ Start.None = trial_at_few ρ 0
-begin_few ρ (Start.Given t) = let l : 49 < 50 = omega arith in given l
+begin_few ρ None = trial_at_few ρ 0
+begin_few ρ (Some t) = let l : 49 < 50 = omega arith in given l
 
 pub critical_kept : (maxdensity ρ : Float) (ev : Evaluator) (s : CriticalSpot) → Fits (critical_numbers (Continue s)) → Fits (critical_numbers (critical_next maxdensity ρ ev s))
 unfolding critical_numbers

@@ -63,8 +63,8 @@ module _ (ρ : Float) where
 
   -- where a search begins
   unfoldable pub critical_begin : (temperature : Option Float) → Progress CriticalSpot
-  critical_begin Start.None = trial_at 0
-  critical_begin (Start.Given t) = Continue (Given (hkm_start t ρ))
+  critical_begin None = trial_at 0
+  critical_begin (Some t) = Continue (Given (hkm_start t ρ))
 
 module _ (maxdensity ρ : Float) where
   -- the search that is left

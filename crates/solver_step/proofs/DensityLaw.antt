@@ -57,8 +57,8 @@ module _ (c : Conditions) where
 
   arrived_at_lem : (n : ℕ) (a : Answer) → left (arrived_at n a) ≡ settled (on_found (go_on c n) a)
   unfolding density_left phase_answer arrived_at settle on_found
-  arrived_at_lem n (Answer.Found v) = slope_at_lem n v.first
-  arrived_at_lem n (Answer.Refused r) = refl
+  arrived_at_lem n (Ok v) = slope_at_lem n v.first
+  arrived_at_lem n (Err r) = refl
 
   slope_on_lem : (n : ℕ) (ρ : Float) (o : SlopeOutcome) → left (slope_on n ρ o) ≡ settled (slope_led o (λ error. and_then (unstable c ρ error) (go_on c n)) (density_from c n))
   unfolding density_left resume_density phase_answer slope_on settle slope_led unstable bind
@@ -89,24 +89,24 @@ module _ (c : Conditions) where
 
   nearest_on_lem : (n : ℕ) (way : Nearest) (p : Progress SpinodalSpot) → left (nearest_on c n way p) ≡ settled (bind (bind (spinodal_left c.maxdensity c.temperature p) (by_nearest way)) (on n))
   unfolding density_left resume_density phase_answer nearest_on spinodal_left settle bind on_found
-  nearest_on_lem n way (Break (Answer.Found sp)) = arrived_at_lem n (after_nearest c way sp)
-  nearest_on_lem n way (Break (Answer.Refused r)) = refl
+  nearest_on_lem n way (Break (Ok sp)) = arrived_at_lem n (after_nearest c way sp)
+  nearest_on_lem n way (Break (Err r)) = refl
   nearest_on_lem n way (Continue s) = sym (spinodal_asks2 c.maxdensity c.temperature s (by_nearest way) (on n))
 
   vapor_on_lem : (n : ℕ) (way : Both) (ρl : Float) (p : Progress SpinodalSpot)
       → left (vapor_on c n way ρl p) ≡ settled (bind (bind (branch_left c.maxdensity c.temperature Vapor p) (by_vapor way ρl)) (on n))
   unfolding density_left resume_density phase_answer vapor_on branch_left settle bind on_found
-  vapor_on_lem n way ρl (Break (Answer.Found v)) = slope_at_lem n (after_both c way ρl v)
-  vapor_on_lem n way ρl (Break (Answer.Refused r)) = refl
+  vapor_on_lem n way ρl (Break (Ok v)) = slope_at_lem n (after_both c way ρl v)
+  vapor_on_lem n way ρl (Break (Err r)) = refl
   vapor_on_lem n way ρl (Continue s) = sym (branch_asks2 c.maxdensity c.temperature Vapor s (by_vapor way ρl) (on n))
 
   liquid_on_lem : (n : ℕ) (way : Both) (p : Progress SpinodalSpot) → left (liquid_on c n way p) ≡ settled (bind (bind (branch_left c.maxdensity c.temperature Liquid p) (by_liquid way)) (on n))
   unfolding density_left resume_density phase_answer liquid_on branch_left settle bind on_found vapor
-  liquid_on_lem n way (Break (Answer.Found l)) =
+  liquid_on_lem n way (Break (Ok l)) =
       vapor_on_lem n way l.second (branch_begin c.maxdensity Vapor)
       ∙ ap (λ (x : Search). settled (bind (bind x (by_vapor way l.second)) (on n))) (branch_begins c.maxdensity c.temperature Vapor)
       ∙ settle_bind2 (pressure_spinodal_branch c.maxdensity c.temperature Vapor) (by_vapor way l.second) (on n)
-  liquid_on_lem n way (Break (Answer.Refused r)) = refl
+  liquid_on_lem n way (Break (Err r)) = refl
   liquid_on_lem n way (Continue s) = sym (branch_asks2 c.maxdensity c.temperature Liquid s (by_liquid way) (on n))
 
   detour_at_lem : (n : ℕ) (way : Detour) → left (detour_at c n way) ≡ settled (bind (detour c way) (on n))

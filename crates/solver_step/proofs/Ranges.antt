@@ -56,14 +56,14 @@ start_few : (ρ : Float) → Few (spinodal_start ρ)
 unfolding spinodal_start
 start_few ρ = go (le ρ f0)
   where
-    go : (b : Bool) → Few (cond b (Break (Answer.Refused StartNotPositive)) (Continue (record { rounds = 29; rho = ρ })))
+    go : (b : Bool) → Few (cond b (Break (Err StartNotPositive)) (Continue (record { rounds = 29; rho = ρ })))
     go true = Few.ended
     go false = let l : 29 < 50 = omega arith in Few.at l
 
 branch_few : (branch : Branch) (p : Progress SpinodalSpot) → Few p → Few (branch_place branch p)
 unfolding branch_place
-branch_few branch (Break (Answer.Found v)) f = Few.ended
-branch_few branch (Break (Answer.Refused r)) f = Few.ended
+branch_few branch (Break (Ok v)) f = Few.ended
+branch_few branch (Break (Err r)) f = Few.ended
 branch_few branch (Continue s) f = f
 
 -- ---- density searches: fewer than 50 rounds left, and so in the spinodal search of a detour
@@ -86,8 +86,8 @@ less n h = omega arith
 
 arrived_within : (n : ℕ) (a : Answer) → n < 50 → Bounded (arrived_at n a)
 unfolding arrived_at
-arrived_within n (Answer.Found v) h = slope_within n v.first (less n h)
-arrived_within n (Answer.Refused r) h = Bounded.ended
+arrived_within n (Ok v) h = slope_within n v.first (less n h)
+arrived_within n (Err r) h = Bounded.ended
 
 slope_on_within : (n : ℕ) (ρ : Float) (o : SlopeOutcome) → n < 50 → Bounded (slope_on n ρ o)
 unfolding slope_on
@@ -106,14 +106,14 @@ module _ (c : Conditions) where
 
   nearest_within : (n : ℕ) (way : Nearest) (p : Progress SpinodalSpot) → n < 50 → Few p → Bounded (nearest_on c n way p)
   unfolding nearest_on
-  nearest_within n way (Break (Answer.Found sp)) h f = arrived_within n (after_nearest c way sp) h
-  nearest_within n way (Break (Answer.Refused r)) h f = Bounded.ended
+  nearest_within n way (Break (Ok sp)) h f = arrived_within n (after_nearest c way sp) h
+  nearest_within n way (Break (Err r)) h f = Bounded.ended
   nearest_within n way (Continue s) h (Few.at l) = Bounded.nearest h l
 
   vapor_within : (n : ℕ) (way : Both) (ρl : Float) (p : Progress SpinodalSpot) → n < 50 → Few p → Bounded (vapor_on c n way ρl p)
   unfolding vapor_on
-  vapor_within n way ρl (Break (Answer.Found v)) h f = slope_within n _ (less n h)
-  vapor_within n way ρl (Break (Answer.Refused r)) h f = Bounded.ended
+  vapor_within n way ρl (Break (Ok v)) h f = slope_within n _ (less n h)
+  vapor_within n way ρl (Break (Err r)) h f = Bounded.ended
   vapor_within n way ρl (Continue s) h (Few.at l) = Bounded.in_vapor h l
 
   begin_few : (branch : Branch) → Few (branch_begin c.maxdensity branch)
@@ -122,8 +122,8 @@ module _ (c : Conditions) where
 
   liquid_within : (n : ℕ) (way : Both) (p : Progress SpinodalSpot) → n < 50 → Few p → Bounded (liquid_on c n way p)
   unfolding liquid_on
-  liquid_within n way (Break (Answer.Found l)) h f = vapor_within n way l.second (branch_begin c.maxdensity Vapor) h (begin_few Vapor)
-  liquid_within n way (Break (Answer.Refused r)) h f = Bounded.ended
+  liquid_within n way (Break (Ok l)) h f = vapor_within n way l.second (branch_begin c.maxdensity Vapor) h (begin_few Vapor)
+  liquid_within n way (Break (Err r)) h f = Bounded.ended
   liquid_within n way (Continue s) h (Few.at l) = Bounded.in_liquid h l
 
   detour_within : (n : ℕ) (way : Detour) → n < 50 → Bounded (detour_at c n way)

@@ -29,7 +29,7 @@ use Rattle.solver_step.specs.SpinodalStep.{resume_spinodal, spinodal_start, spin
 -- how a density search ended, as an answer
 unfoldable pub phase_answer : Phase → Answer
 phase_answer (Ok ρ) = density ρ
-phase_answer (Err r) = Answer.Refused r
+phase_answer (Err r) = Err r
 
 -- the next round, n being left with it
 unfoldable pub slope_at : ℕ → Float → Standing DensitySpot
@@ -38,8 +38,8 @@ slope_at (suc n) ρ = Continue (Slope n ρ)
 
 -- a detour's end
 unfoldable pub arrived_at : ℕ → Answer → Standing DensitySpot
-arrived_at n (Answer.Found v) = slope_at n v.first
-arrived_at n (Answer.Refused r) = Break (Err r)
+arrived_at n (Ok v) = slope_at n v.first
+arrived_at n (Err r) = Break (Err r)
 
 -- where a round at ρ leads, n being left after it
 unfoldable pub slope_on : ℕ → Float → SlopeOutcome → Standing DensitySpot
@@ -84,18 +84,18 @@ module _ (c : Conditions) where
 
   -- where a detour's spinodal search stands, or what it leads to
   unfoldable pub nearest_on : ℕ → Nearest → Progress SpinodalSpot → Standing DensitySpot
-  nearest_on n way (Break (Answer.Found sp)) = arrived_at n (after_nearest c way sp)
-  nearest_on n way (Break (Answer.Refused r)) = Break (Err r)
+  nearest_on n way (Break (Ok sp)) = arrived_at n (after_nearest c way sp)
+  nearest_on n way (Break (Err r)) = Break (Err r)
   nearest_on n way (Continue s) = Continue (NearestSpinodal n way s)
 
   unfoldable pub vapor_on : ℕ → Both → Float → Progress SpinodalSpot → Standing DensitySpot
-  vapor_on n way ρl (Break (Answer.Found v)) = slope_at n (after_both c way ρl v)
-  vapor_on n way ρl (Break (Answer.Refused r)) = Break (Err r)
+  vapor_on n way ρl (Break (Ok v)) = slope_at n (after_both c way ρl v)
+  vapor_on n way ρl (Break (Err r)) = Break (Err r)
   vapor_on n way ρl (Continue s) = Continue (VaporSpinodal n way ρl s)
 
   unfoldable pub liquid_on : ℕ → Both → Progress SpinodalSpot → Standing DensitySpot
-  liquid_on n way (Break (Answer.Found l)) = vapor_on n way l.second (branch_begin c.maxdensity Vapor)
-  liquid_on n way (Break (Answer.Refused r)) = Break (Err r)
+  liquid_on n way (Break (Ok l)) = vapor_on n way l.second (branch_begin c.maxdensity Vapor)
+  liquid_on n way (Break (Err r)) = Break (Err r)
   liquid_on n way (Continue s) = Continue (LiquidSpinodal n way s)
 
   -- a detour begins

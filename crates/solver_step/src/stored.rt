@@ -1,5 +1,6 @@
 // The places of kinds 1 to 4 as numbers and back.
 ghost use Rattle.std.specs.Prelude.{◌≡◌};
+ghost use Rattle.std.specs.declared.ops.ControlFlow.TheVariants.{Continue};
 ghost use Rattle.solver_step.specs.Stored.{nearest_number, nearest_by, both_number, both_by, spot_numbers, spinodal_numbers, spinodal_spot_by, spinodal_place_by, phase_by, density_spot_numbers, density_spot_by, density_numbers, density_place_by, staged as staged_numbers, potential_numbers, stable_numbers, stable_spot_by, stable_place_by};
 
 use crate::density::phase_answer;
@@ -233,7 +234,7 @@ fn potential_numbers(stage: u64, x: f64, y: f64, z: f64) -> Numbers
 }
 
 fn stable_spot_numbers(spot: StableSpot) -> Numbers
-    ensures { result ≡ stable_numbers (StablePlace.At spot) }
+    ensures { result ≡ stable_numbers (Continue spot) }
 {
     match spot {
         StableSpot::LiquidSearch(at) => staged(1, 0, 0.0, density_spot_numbers(at)),

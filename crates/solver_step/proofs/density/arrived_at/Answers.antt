@@ -1,4 +1,5 @@
 -- `solver_step::density::arrived_at`.
+use Rattle.std.specs.Prelude.{Ok, Err}
 use Rattle.solver_step.specs.DensityStep.{arrived_at}
 use Rattle.solver_step.proofs.density.arrived_at.Goals as goal
 

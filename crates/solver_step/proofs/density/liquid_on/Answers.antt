@@ -1,4 +1,5 @@
 -- `solver_step::density::liquid_on`.
+use Rattle.std.specs.Prelude.{Ok, Err}
 use Rattle.solver_step.specs.DensityStep.{liquid_on}
 use Rattle.solver_step.proofs.density.liquid_on.Goals as goal
 

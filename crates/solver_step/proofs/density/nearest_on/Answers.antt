@@ -1,4 +1,5 @@
 -- `solver_step::density::nearest_on`.
+use Rattle.std.specs.Prelude.{Ok, Err}
 use Rattle.solver_step.specs.DensityStep.{nearest_on}
 use Rattle.solver_step.proofs.density.nearest_on.Goals as goal
 

@@ -1,4 +1,5 @@
 -- `solver_step::density::phase_answer`.
+use Rattle.std.specs.Prelude.{Ok, Err}
 use Rattle.solver_step.specs.DensityStep.{phase_answer}
 use Rattle.solver_step.proofs.density.phase_answer.Goals as goal
 

@@ -1,4 +1,5 @@
 -- `solver_step::density::vapor_on`.
+use Rattle.std.specs.Prelude.{Ok, Err}
 use Rattle.solver_step.specs.DensityStep.{vapor_on}
 use Rattle.solver_step.proofs.density.vapor_on.Goals as goal
 

@@ -1,4 +1,5 @@
 -- `solver_step::spinodal::branch_place`.
+use Rattle.std.specs.Prelude.{Ok, Err}
 use Rattle.solver_step.specs.SpinodalStep.{branch_place}
 use Rattle.solver_step.proofs.spinodal.branch_place.Goals as goal
 

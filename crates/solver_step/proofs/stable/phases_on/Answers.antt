@@ -1,4 +1,5 @@
 -- `solver_step::stable::phases_on`.
+use Rattle.std.specs.Prelude.{Ok, Err}
 use Rattle.solver_step.specs.StableStep.{phases_on}
 use Rattle.solver_step.proofs.stable.phases_on.Goals as goal
 
