@@ -19,21 +19,21 @@ use Rattle.solver.specs.declared.types.DensityInitialization.{DensityInitializat
 use Rattle.solver.specs.declared.types.DensityInitialization.TheVariants.{Vapor, Liquid}
 use Rattle.solver.specs.declared.types.Values.{Values}
 use Rattle.solver.specs.declared.types.Refusal.TheVariants.{NotFinite}
-use Rattle.solver.specs.declared.types.Answer.{Answer}
-use Rattle.solver.specs.declared.types.Answer.TheVariants.{Found, Refused}
+use Rattle.solver.specs.Answer.{Answer}
+use Rattle.std.specs.Prelude.{Ok, Err}
 use Rattle.solver.specs.Search.{Query, slope, curvature, potential, criticality, stability, criticality_t, criticality_p, Yield, Evaluator, Search, done, ask, test, refuse, tested, bind, on_found, and_then, run}
 use Rattle.solver_density.specs.declared.types.Branch.{Branch}
 use Rattle.solver_density.specs.declared.types.Conditions.{Conditions}
-use Rattle.solver_density.specs.declared.types.Outcome.{Outcome}
-use Rattle.solver_density.specs.declared.types.Outcome.TheVariants.{End, Next}
+use Rattle.solver.specs.Answer.{Progress}
+use Rattle.std.specs.declared.ops.ControlFlow.TheVariants.{Break, Continue}
 use Rattle.solver_density.specs.declared.types.Both.{Both}
 use Rattle.solver_density.specs.declared.types.Detour.{Detour}
 use Rattle.solver_density.specs.declared.types.Detour.TheVariants.{ByNearest, ByBoth}
 use Rattle.solver_density.specs.Spinodal.{tested3, continued, spinodal_outcome, spinodal_from, pressure_spinodal, branch_start, pressure_spinodal_branch}
 use Rattle.solver_density.specs.Density.{conditions_of, detour_of, converged, corrected, vapor, detour, unstable, after_slope, density_from, first_round, density_search, density_iteration}
 use Rattle.solver_density.specs.Stable.{potentials, vapor_potential, stable_phase, after_liquid, density_iteration_stable}
-use Rattle.solver_critical.specs.declared.types.Start.{Start}
-use Rattle.solver_critical.specs.declared.types.Start.TheVariants.{None, Given}
+use Rattle.std.specs.declared.option.Option.{Option}
+use Rattle.std.specs.declared.option.Option.TheVariants.{None, Some}
 use Rattle.solver_critical.specs.declared.types.Point.{Point}
 use Rattle.solver_critical.specs.CriticalPoint as Critical
 use Rattle.solver_critical.specs.Spinodal as Spinodals
@@ -85,8 +85,8 @@ unfolding on_found
 of_then f w h = of_bind (on_found f) w go
   where
     go : (a : Answer) → Asks (on_found f a)
-    go (Found v) = h v
-    go (Refused r) = Asks.ended
+    go (Ok v) = h v
+    go (Err r) = Asks.ended
 
 of_tested : {t : Search} (x : Float) → Asks t → Asks (tested x t)
 unfolding tested
@@ -104,10 +104,10 @@ of_cond false v w = w
 of_tested3 : {t : Search} (y : Pressure) → Asks t → Asks (tested3 y t)
 of_tested3 y w = of_tested y.p (of_tested y.dp_drho (of_tested y.d2p_drho2 w))
 
-of_continued : (o : Outcome) (again : Float → Search) → ((ρ : Float) → Asks (again ρ)) → Asks (continued o again)
+of_continued : (o : Progress Float) (again : Float → Search) → ((ρ : Float) → Asks (again ρ)) → Asks (continued o again)
 unfolding continued
-of_continued (End a) again h = Asks.ended
-of_continued (Next ρ) again h = of_tested ρ (h ρ)
+of_continued (Break a) again h = Asks.ended
+of_continued (Continue ρ) again h = of_tested ρ (h ρ)
 
 spinodal_from_lem : (maxdensity t : Float) (n : ℕ) (ρ : Float) → Asks (spinodal_from maxdensity t n ρ)
 unfolding spinodal_from
@@ -158,10 +158,10 @@ of_iteration maxdensity t p initial = of_density_lem (conditions_of maxdensity t
 -- ---- kind 2
 of_phase : (t : Float) (l v : Answer) → Asks (stable_phase t l v)
 unfolding stable_phase potentials vapor_potential
-of_phase t (Found l) (Found v) = asked refl (λ μl. of_tested μl (asked refl (λ μv. of_tested μv Asks.ended)))
-of_phase t (Found l) (Refused r) = Asks.ended
-of_phase t (Refused q) (Found v) = Asks.ended
-of_phase t (Refused q) (Refused r) = Asks.ended
+of_phase t (Ok l) (Ok v) = asked refl (λ μl. of_tested μl (asked refl (λ μv. of_tested μv Asks.ended)))
+of_phase t (Ok l) (Err r) = Asks.ended
+of_phase t (Err q) (Ok v) = Asks.ended
+of_phase t (Err q) (Err r) = Asks.ended
 
 of_stable : (maxdensity t p : Float) → Asks (density_iteration_stable maxdensity t p)
 unfolding density_iteration_stable after_liquid
@@ -176,8 +176,8 @@ of_tested6 y w = of_tested y.l (of_tested y.c2 (of_tested y.dl_d0 (of_tested y.d
 
 of_else : {s : Search} (a : Answer) → Asks s → Asks (Critical.or_else s a)
 unfolding Critical.or_else
-of_else (Found v) w = Asks.ended
-of_else (Refused r) w = w
+of_else (Ok v) w = Asks.ended
+of_else (Err r) w = w
 
 module _ (maxdensity : Float) where
   of_solve : (p : Point) (y : Criticality) (s : Solved) (again : Point → Search) → ((p : Point) → Asks (again p)) → Asks (Critical.after_solve maxdensity p y s again)
@@ -199,10 +199,10 @@ module _ (maxdensity : Float) where
   of_trials ρ [] = Asks.ended
   of_trials ρ (t ∷ ts) = of_bind (Critical.or_else (Critical.trials maxdensity ρ ts)) (of_hkm t ρ) (λ a. of_else a (of_trials ρ ts))
 
-  of_critical : (temperature density : Start) → Asks (Critical.critical_point maxdensity temperature density)
+  of_critical : (temperature density : Option Float) → Asks (Critical.critical_point maxdensity temperature density)
   unfolding Critical.critical_point Critical.from_temperature
   of_critical None density = of_trials _ _
-  of_critical (Given t) density = of_hkm t _
+  of_critical (Some t) density = of_hkm t _
 
 -- ---- kind 6
 module _ (maxdensity t : Float) where
@@ -235,7 +235,7 @@ module _ (maxdensity : Float) where
   rounds_t t zero p = Asks.ended
   rounds_t t (suc n) p = asked refl (λ (y : Criticality). of_tested6 y (of_solve_t p y (Critical.solved y) (rounds (query_t t) (after_conditions_t maxdensity) n) (rounds_t t n)))
 
-  of_temperature : (z0 z1 t : Float) (density : Start) → Asks (critical_point_binary_t maxdensity z0 z1 t density)
+  of_temperature : (z0 z1 t : Float) (density : Option Float) → Asks (critical_point_binary_t maxdensity z0 z1 t density)
   unfolding critical_point_binary_t
   of_temperature z0 z1 t density = rounds_t t 200 _
 

@@ -7,8 +7,8 @@ use Rattle.solver.specs.declared.types.DensityInitialization.{DensityInitializat
 use Rattle.solver.specs.declared.types.DensityInitialization.TheVariants as Initial
 use Rattle.solver_density.specs.declared.types.Branch.{Branch}
 use Rattle.solver_density.specs.declared.types.Branch.TheVariants as Branch
-use Rattle.solver_critical.specs.declared.types.Start.{Start}
-use Rattle.solver_critical.specs.declared.types.Start.TheVariants.{None, Given}
+use Rattle.std.specs.declared.option.Option.{Option}
+use Rattle.std.specs.declared.option.Option.TheVariants.{None, Some}
 use Rattle.block.specs.declared.types.Conditions.{Conditions}
 use Rattle.block.specs.declared.types.Numbers.{Numbers}
 use Rattle.reader.specs.declared.types.Task.{Task}
@@ -28,8 +28,8 @@ unfoldable pub branch_of : (choice : ℕ) → Branch
 branch_of choice = cond (eqb choice 0) Branch.Vapor Branch.Liquid
 
 -- "Kind 5 reads +0 in temperature or start as none"; kinds 7 to 9 too, but for kind 8's temperature, which is no +0
-unfoldable pub given_of : Float → Start
-given_of x = cond (plus_zero x) None (Given x)
+unfoldable pub given_of : Float → Option Float
+given_of x = cond (plus_zero x) None (Some x)
 
 -- "Kinds and spans"; kinds 5 and 7 search a critical point, kind 5 of one component and kind 7 of the blend; "Kind 8 follows `critical_point_binary_t`, kind 9
 -- `critical_point_binary_p`"

@@ -16,7 +16,6 @@ use block::{
 };
 use eos::Blend;
 use solver::DensityInitialization;
-use solver_critical::Start;
 use solver_density::Branch;
 
 fn initial(choice: u64, start: f64) -> DensityInitialization
@@ -40,13 +39,13 @@ fn branch(choice: u64) -> Branch
     Branch::Liquid
 }
 
-fn given(x: f64) -> Start
+fn given(x: f64) -> Option<f64>
     ensures { result ≡ given_of x }
 {
     if is_plus_zero(x) {
-        return Start::None;
+        return None;
     }
-    Start::Given(x)
+    Some(x)
 }
 
 fn task(kind: u64, c: Conditions) -> Task

@@ -1,7 +1,6 @@
 // The job that a request asks for.
 use eos::Blend;
 use solver::DensityInitialization;
-use solver_critical::Start;
 use solver_density::Branch;
 
 // What a job does, under the names of the Rust's functions; or the number of the refusal.
@@ -17,13 +16,13 @@ pub enum Task {
     // temperature, branch
     PressureSpinodalBranch(f64, Branch),
     // temperature and starting density, each if given
-    CriticalPoint(Start, Start),
+    CriticalPoint(Option<f64>, Option<f64>),
     // temperature
     Spinodal(f64),
     // temperature; starting density, if given
-    CriticalPointBinaryT(f64, Start),
+    CriticalPointBinaryT(f64, Option<f64>),
     // pressure; temperature and starting density, each if given
-    CriticalPointBinaryP(f64, Start, Start),
+    CriticalPointBinaryP(f64, Option<f64>, Option<f64>),
 }
 
 // A job, with the blend that it searches. On a refusal the blend is empty.

@@ -13,8 +13,8 @@ use Rattle.buf.proofs.Laws.{le_bytes_of, length_bytes_of}
 use Rattle.float.specs.Ops.{f0}
 use Rattle.eos.specs.declared.types.Blend.{Blend}
 use Rattle.solver.specs.declared.types.Refusal.TheVariants.{StartNotPositive, NotConverged, IterationFailed, BothPhasesFailed, WrongBranch, Supercritical, NotFinite}
-use Rattle.solver.specs.declared.types.Answer.{Answer}
-use Rattle.solver.specs.declared.types.Answer.TheVariants.{Found, Refused}
+use Rattle.solver.specs.Answer.{Answer}
+use Rattle.std.specs.Prelude.{Ok, Err}
 use Rattle.solver.specs.Answer.{number_of, status_of}
 use Rattle.solver.specs.Search.{Evaluator}
 use Rattle.block.specs.declared.types.Conditions.{Conditions}
@@ -35,14 +35,14 @@ use Rattle.records.proofs.SpanLaws.{evaluations_most}
 
 answer_status : (a : Answer) → SearchStatus (status_of a)
 unfolding status_of number_of
-answer_status (Found v) = found
-answer_status (Refused StartNotPositive) = SearchStatus.refused {number = 21} (omega arith)
-answer_status (Refused NotConverged) = SearchStatus.refused {number = 22} (omega arith)
-answer_status (Refused IterationFailed) = SearchStatus.refused {number = 23} (omega arith)
-answer_status (Refused BothPhasesFailed) = SearchStatus.refused {number = 24} (omega arith)
-answer_status (Refused WrongBranch) = SearchStatus.refused {number = 25} (omega arith)
-answer_status (Refused Supercritical) = SearchStatus.refused {number = 26} (omega arith)
-answer_status (Refused NotFinite) = SearchStatus.refused {number = 27} (omega arith)
+answer_status (Ok v) = found
+answer_status (Err StartNotPositive) = SearchStatus.refused {number = 21} (omega arith)
+answer_status (Err NotConverged) = SearchStatus.refused {number = 22} (omega arith)
+answer_status (Err IterationFailed) = SearchStatus.refused {number = 23} (omega arith)
+answer_status (Err BothPhasesFailed) = SearchStatus.refused {number = 24} (omega arith)
+answer_status (Err WrongBranch) = SearchStatus.refused {number = 25} (omega arith)
+answer_status (Err Supercritical) = SearchStatus.refused {number = 26} (omega arith)
+answer_status (Err NotFinite) = SearchStatus.refused {number = 27} (omega arith)
 
 task_status : (ev : Evaluator) (blend : Blend) (kind : ℕ) (c : Conditions) → SearchStatus (end_of ev (course_of blend (task_of kind c))).status
 unfolding course_of end_of search_end

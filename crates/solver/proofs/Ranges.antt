@@ -6,8 +6,8 @@ use mathlib.Core.Bool.{Bool, true, false, ◌&&◌}
 use borrow.Author.Tests.{lt-ltb, ltb-true}
 use lib.Dec.{ltb}
 use Rattle.solver.specs.declared.types.Refusal.TheVariants.{StartNotPositive, NotConverged, IterationFailed, BothPhasesFailed, WrongBranch, Supercritical, NotFinite}
-use Rattle.solver.specs.declared.types.Answer.{Answer}
-use Rattle.solver.specs.declared.types.Answer.TheVariants.{Found, Refused}
+use Rattle.solver.specs.Answer.{Answer}
+use Rattle.std.specs.Prelude.{Ok, Err}
 use Rattle.solver.specs.declared.types.Counters.{Counters}
 use Rattle.solver.specs.declared.types.Numbers.{Numbers}
 use Rattle.solver.specs.Answer.{number_of, status_of}
@@ -56,14 +56,14 @@ fits most c b = rw (lt-ltb c.stage 5 b.stage, lt-ltb c.tag 7 b.tag, b.status, lt
 
 pub status_fits_lem : (a : Answer) → status_fits (status_of a) ≡ true
 unfolding status_fits status_of number_of
-status_fits_lem (Found v) = refl
-status_fits_lem (Refused StartNotPositive) = refl
-status_fits_lem (Refused NotConverged) = refl
-status_fits_lem (Refused IterationFailed) = refl
-status_fits_lem (Refused BothPhasesFailed) = refl
-status_fits_lem (Refused WrongBranch) = refl
-status_fits_lem (Refused Supercritical) = refl
-status_fits_lem (Refused NotFinite) = refl
+status_fits_lem (Ok v) = refl
+status_fits_lem (Err StartNotPositive) = refl
+status_fits_lem (Err NotConverged) = refl
+status_fits_lem (Err IterationFailed) = refl
+status_fits_lem (Err BothPhasesFailed) = refl
+status_fits_lem (Err WrongBranch) = refl
+status_fits_lem (Err Supercritical) = refl
+status_fits_lem (Err NotFinite) = refl
 
 pub ended_below : (most : ℕ) (a : Answer) → 0 < most → FitsBelow most (ended_numbers a)
 unfolding ended_numbers counters_below

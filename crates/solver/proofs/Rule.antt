@@ -7,8 +7,8 @@ use mathlib.Core.Bool.{Bool, true, false, cond, not, ◌&&◌, ◌||◌}
 use lib.Ieee.{Float}
 use Rattle.float.specs.Sign.{finite_of}
 use Rattle.solver.specs.declared.types.Values.{Values}
-use Rattle.solver.specs.declared.types.Answer.{Answer}
-use Rattle.solver.specs.declared.types.Answer.TheVariants.{Found, Refused}
+use Rattle.solver.specs.Answer.{Answer}
+use Rattle.std.specs.Prelude.{Ok, Err}
 use Rattle.solver.specs.declared.types.Ran.{Ran}
 use Rattle.solver.specs.Answer.{number_of, status_of, is27}
 use Rattle.solver.specs.Search.{Query, Yield, Evaluator, Search, done, ask, test, tested, bind, on_found, and_then, run, clean, answer_of, found_and, Ruled}
@@ -57,8 +57,8 @@ unfolding on_found found_and run is27 status_of
 then_27 ev t f = ap is27 (answer_bind ev t (on_found f)) ∙ go (answer_of ev t)
   where
     go : (a : Answer) → is27 (answer_of ev (on_found f a)) ≡ is27 a || found_and a (λ v. is27 (answer_of ev (f v)))
-    go (Found v) = refl
-    go (Refused r) = or_false (is27 (Refused r))
+    go (Ok v) = refl
+    go (Err r) = or_false (is27 (Err r))
 
 -- a part whose 27 is told by `first`, and what follows it, whose 27 is told by `later`
 pub then_told : (ev : Evaluator) (t : Search) (f : Values → Search) (first : Bool) (later : Values → Bool) → is27 (answer_of ev t) ≡ first
@@ -71,8 +71,8 @@ unfolding found_and is27 status_of
 then_never ev t f g = then_told ev t f (is27 (answer_of ev t)) (λ v. false) refl g ∙ go (answer_of ev t)
   where
     go : (a : Answer) → is27 a || found_and a (λ v. false) ≡ is27 a
-    go (Found v) = refl
-    go (Refused r) = sym (or_false (is27 (Refused r)))
+    go (Ok v) = refl
+    go (Err r) = sym (or_false (is27 (Err r)))
 
 -- ---- searches that are ruled
 
@@ -96,7 +96,7 @@ unfolding bind on_found
 ruled_then f (Ruled.ended {a = a} h) r = go a h
   where
     go : (a : Answer) → is27 a ≡ false → Ruled (on_found f a)
-    go (Found v) h = r v
-    go (Refused n) h = Ruled.ended h
+    go (Ok v) h = r v
+    go (Err n) h = Ruled.ended h
 ruled_then f (Ruled.asks {k = k} g) r = Ruled.asks (λ y. ruled_then {t = k y} f (g y) r)
 ruled_then f (Ruled.tests e g) r = Ruled.tests (ap (λ (t : Search). and_then t f) e) (ruled_then f g r)

@@ -9,8 +9,8 @@ use Rattle.eos.specs.declared.types.Blend.{Blend}
 use Rattle.solver.specs.declared.types.Values.{Values}
 use Rattle.solver.specs.declared.types.Refusal.{Refusal}
 use Rattle.solver.specs.declared.types.Refusal.TheVariants.{NotFinite}
-use Rattle.solver.specs.declared.types.Answer.{Answer}
-use Rattle.solver.specs.declared.types.Answer.TheVariants.{Found, Refused}
+use Rattle.solver.specs.Answer.{Answer}
+use Rattle.std.specs.Prelude.{Ok, Err}
 use Rattle.solver.specs.declared.types.Ran.{Ran}
 use Rattle.solver.specs.Search.{Evaluator, Search, done, ask, test, refuse, tested, bind, on_found, and_then, run, settle, Within}
 use Rattle.solver.specs.Evaluated.{evaluated}
@@ -51,11 +51,11 @@ pub same_run : (b : Blend) (n : ℕ) (x y : Search) → settle finite_of x ≡ s
 same_run b n x y e = sym (run_settle finite_of (evaluated b) n x) ∙ ap (ran b n) e ∙ run_settle finite_of (evaluated b) n y
 
 pub run_tested : (ok : Float → Bool) (ev : Evaluator) (n : ℕ) (x : Float) (t : Search)
-    → run ok ev n (tested x t) ≡ cond (ok x) (run ok ev n t) (record { answer = Refused NotFinite; evaluations = n })
+    → run ok ev n (tested x t) ≡ cond (ok x) (run ok ev n t) (record { answer = Err NotFinite; evaluations = n })
 unfolding run tested
 run_tested ok ev n x t = go (ok x)
   where
-    go : (c : Bool) → run ok ev n (cond c t (refuse NotFinite)) ≡ cond c (run ok ev n t) (record { answer = Refused NotFinite; evaluations = n })
+    go : (c : Bool) → run ok ev n (cond c t (refuse NotFinite)) ≡ cond c (run ok ev n t) (record { answer = Err NotFinite; evaluations = n })
     go true = refl
     go false = refl
 
@@ -78,27 +78,27 @@ both_parts b t f s r e q = added ∙ first_part b t f s e
     added = rw q (sym (run_from finite_of (evaluated b) s.evaluations (f s.answer)))
 
 -- ---- the Rust's `?`
-pub part_found : (b : Blend) (n : ℕ) (t : Search) (f : Values → Search) (s : Ran) (v : Values) → s ≡ ran b 0 t → s.answer ≡ Found v
+pub part_found : (b : Blend) (n : ℕ) (t : Search) (f : Values → Search) (s : Ran) (v : Values) → s ≡ ran b 0 t → s.answer ≡ Ok v
     → ran b (n + s.evaluations) (f v) ≡ ran b n (and_then t f)
 unfolding on_found
 part_found b n t f s v e a = rw a at (part_bind b n t (on_found f) s e)
 
-pub part_refused : (b : Blend) (n : ℕ) (t : Search) (f : Values → Search) (s : Ran) (r : Refusal) → s ≡ ran b 0 t → s.answer ≡ Refused r
-    → record { answer = Refused r; evaluations = n + s.evaluations } ≡ ran b n (and_then t f)
+pub part_refused : (b : Blend) (n : ℕ) (t : Search) (f : Values → Search) (s : Ran) (r : Refusal) → s ≡ ran b 0 t → s.answer ≡ Err r
+    → record { answer = Err r; evaluations = n + s.evaluations } ≡ ran b n (and_then t f)
 unfolding on_found run
 part_refused b n t f s r e a = rw a at (part_bind b n t (on_found f) s e)
 
-pub then_found : (b : Blend) (t : Search) (f : Values → Search) (s : Ran) (v : Values) (r : Ran) → s ≡ ran b 0 t → s.answer ≡ Found v → r ≡ ran b 0 (f v)
+pub then_found : (b : Blend) (t : Search) (f : Values → Search) (s : Ran) (v : Values) (r : Ran) → s ≡ ran b 0 t → s.answer ≡ Ok v → r ≡ ran b 0 (f v)
     → record { answer = r.answer; evaluations = s.evaluations + r.evaluations } ≡ ran b 0 (and_then t f)
 unfolding on_found
 then_found b t f s v r e a q = both_parts b t (on_found f) s r e (rw a q)
 
-pub then_done : (b : Blend) (t : Search) (f : Values → Answer) (s : Ran) (v : Values) → s ≡ ran b 0 t → s.answer ≡ Found v
+pub then_done : (b : Blend) (t : Search) (f : Values → Answer) (s : Ran) (v : Values) → s ≡ ran b 0 t → s.answer ≡ Ok v
     → record { answer = f v; evaluations = s.evaluations } ≡ ran b 0 (and_then t (λ v. done (f v)))
 unfolding on_found run
 then_done b t f s v e a = rw a at (first_part b t (on_found (λ v. done (f v))) s e)
 
-pub then_refused : (b : Blend) (t : Search) (f : Values → Search) (s : Ran) (r : Refusal) → s ≡ ran b 0 t → s.answer ≡ Refused r
-    → record { answer = Refused r; evaluations = s.evaluations } ≡ ran b 0 (and_then t f)
+pub then_refused : (b : Blend) (t : Search) (f : Values → Search) (s : Ran) (r : Refusal) → s ≡ ran b 0 t → s.answer ≡ Err r
+    → record { answer = Err r; evaluations = s.evaluations } ≡ ran b 0 (and_then t f)
 unfolding on_found run
 then_refused b t f s r e a = rw a at (first_part b t (on_found f) s e)

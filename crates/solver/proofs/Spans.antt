@@ -5,8 +5,8 @@ use mathlib.Core.Bool.{Bool, true, false, cond}
 use lib.Ieee.{Float}
 use Rattle.solver.specs.declared.types.Values.{Values}
 use Rattle.solver.specs.declared.types.Refusal.TheVariants.{NotFinite}
-use Rattle.solver.specs.declared.types.Answer.{Answer}
-use Rattle.solver.specs.declared.types.Answer.TheVariants.{Found, Refused}
+use Rattle.solver.specs.Answer.{Answer}
+use Rattle.std.specs.Prelude.{Ok, Err}
 use Rattle.solver.specs.Search.{Query, Yield, Evaluator, Search, ask, refuse, tested, bind, on_found, and_then, run, Within}
 
 pub asked : (m n : ℕ) {q : Query} {k : Yield q → Search} → suc m ≤ n → ((y : Yield q) → Within m (k y)) → Within n (ask q k)
@@ -28,8 +28,8 @@ unfolding on_found
 within_then n f w h = within_bind n (on_found f) w go
   where
     go : (a : Answer) → Within n (on_found f a)
-    go (Found v) = h v
-    go (Refused r) = Within.ended
+    go (Ok v) = h v
+    go (Err r) = Within.ended
 
 pub within_tested : {n : ℕ} {t : Search} (x : Float) → Within n t → Within n (tested x t)
 unfolding tested

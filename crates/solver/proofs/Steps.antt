@@ -6,7 +6,7 @@ use mathlib.Core.Bool.{Bool, true, false, cond, ◌&&◌}
 use lib.Ieee.{Float}
 use Rattle.float.specs.Sign.{finite_of}
 use Rattle.solver.specs.declared.types.Refusal.TheVariants.{NotFinite}
-use Rattle.solver.specs.declared.types.Answer.{Answer}
+use Rattle.solver.specs.Answer.{Answer}
 use Rattle.solver.specs.Search.{density_of, Evaluator, Search, done, ask, test, refuse, tested, bind, run, settle, Going, next_of, next, after, fresh, Within}
 
 -- ---- the tests that stand first

@@ -10,8 +10,8 @@ use Rattle.evaluations.specs.declared.types.Stability.{Stability}
 use Rattle.solver.specs.declared.types.Values.{Values}
 use Rattle.solver.specs.declared.types.Refusal.{Refusal}
 use Rattle.solver.specs.declared.types.Refusal.TheVariants.{NotFinite}
-use Rattle.solver.specs.declared.types.Answer.{Answer}
-use Rattle.solver.specs.declared.types.Answer.TheVariants.{Found, Refused}
+use Rattle.solver.specs.Answer.{Answer}
+use Rattle.std.specs.Prelude.{Ok, Err}
 use Rattle.solver.specs.declared.types.Ran.{Ran}
 use Rattle.solver.specs.Answer.{is27}
 
@@ -58,7 +58,7 @@ pub data Search : Type 0 where
 
 -- a refusal of the search
 abbrev pub refuse : Refusal → Search
-refuse r = done (Refused r)
+refuse r = done (Err r)
 
 -- "isn't finite .. that search ends with 27"
 unfoldable pub tested : Float → Search → Search
@@ -72,8 +72,8 @@ bind (test x k) f = test x (λ ok. bind (k ok) f)
 
 -- the Rust's `?`: a refusal is the answer
 unfoldable pub on_found : (Values → Search) → Answer → Search
-on_found f (Found v) = f v
-on_found f (Refused r) = refuse r
+on_found f (Ok v) = f v
+on_found f (Err r) = refuse r
 
 abbrev pub and_then : Search → (Values → Search) → Search
 and_then t f = bind t (on_found f)
@@ -97,8 +97,8 @@ answer_of ev t = (run finite_of ev 0 t).answer
 
 -- a part was found, and this holds of what it found
 unfoldable pub found_and : Answer → (Values → Bool) → Bool
-found_and (Found v) holds = holds v
-found_and (Refused r) holds = false
+found_and (Ok v) holds = holds v
+found_and (Err r) holds = false
 
 -- it ends after at most n evaluations, whatever they yield and whatever the tests say
 pub data Within : ℕ → Search → Type 0 where

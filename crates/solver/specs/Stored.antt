@@ -3,8 +3,8 @@ use Rattle.std.specs.Prelude.{ℕ, Bool, cond, not, ◌&&◌, ◌||◌, eqb, ltb
 use Rattle.solver.specs.declared.types.Values.{Values}
 use Rattle.solver.specs.declared.types.Refusal.{Refusal}
 use Rattle.solver.specs.declared.types.Refusal.TheVariants.{StartNotPositive, NotConverged, IterationFailed, BothPhasesFailed, WrongBranch, Supercritical, NotFinite}
-use Rattle.solver.specs.declared.types.Answer.{Answer}
-use Rattle.solver.specs.declared.types.Answer.TheVariants.{Found, Refused}
+use Rattle.solver.specs.Answer.{Answer}
+use Rattle.std.specs.Prelude.{Ok, Err}
 use Rattle.solver.specs.declared.types.Counters.{Counters}
 use Rattle.solver.specs.declared.types.Numbers.{Numbers}
 use Rattle.solver.specs.Answer.{status_of, values_of}
@@ -17,7 +17,7 @@ refusal_by n =
 
 -- an answer by its status and values
 unfoldable pub answer_by : ℕ → Values → Answer
-answer_by status v = cond (eqb status 0) (Found v) (Refused (refusal_by status))
+answer_by status v = cond (eqb status 0) (Ok v) (Err (refusal_by status))
 
 -- the end of a search as numbers: tag 0, its status and its values
 unfoldable pub ended_numbers : Answer → Numbers

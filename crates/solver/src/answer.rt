@@ -22,8 +22,8 @@ pub fn status(answer: Answer) -> u64
     ensures { result ≡ status_of answer }
 {
     match answer {
-        Answer::Found(_) => 0,
-        Answer::Refused(refusal) => refusal_number(refusal),
+        Ok(_) => 0,
+        Err(refusal) => refusal_number(refusal),
     }
 }
 
@@ -31,8 +31,8 @@ pub fn values(answer: Answer) -> Values
     ensures { result ≡ values_of answer }
 {
     match answer {
-        Answer::Found(found) => found,
-        Answer::Refused(_) => Values {
+        Ok(found) => found,
+        Err(_) => Values {
             first: 0.0,
             second: 0.0,
             third: 0.0,

@@ -7,4 +7,4 @@ mod types;
 
 pub use crate::answer::{refusal_number, status, values};
 pub use crate::stored::{answer_by, ended_numbers, in_ranges, refusal_by};
-pub use crate::types::{Answer, Counters, DensityInitialization, Numbers, Ran, Refusal, Values};
+pub use crate::types::{Answer, Counters, DensityInitialization, Numbers, Progress, Ran, Refusal, Values};

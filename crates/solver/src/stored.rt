@@ -33,9 +33,9 @@ pub fn answer_by(status: u64, found: Values) -> Answer
     ensures { result ≡ answer_by status found }
 {
     if status == 0 {
-        return Answer::Found(found);
+        return Ok(found);
     }
-    Answer::Refused(refusal_by(status))
+    Err(refusal_by(status))
 }
 
 // an end as numbers

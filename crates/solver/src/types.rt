@@ -1,4 +1,5 @@
 // What the searches start from and what they hand out.
+use std::ops::ControlFlow;
 
 // Where a search starts. The Rust's enum of the same name.
 #[derive(Clone, Copy)]
@@ -28,11 +29,11 @@ pub enum Refusal {
     NotFinite,
 }
 
-#[derive(Clone, Copy)]
-pub enum Answer {
-    Found(Values),
-    Refused(Refusal),
-}
+// What a search found, or why it failed.
+pub type Answer = Result<Values, Refusal>;
+
+// What a round comes to, or where a search stands: the answer, or what the search goes on from.
+pub type Progress<S> = ControlFlow<Answer, S>;
 
 // An answer, with the evaluations that led to it.
 #[derive(Clone, Copy)]

@@ -6,7 +6,7 @@ use lib.Ieee.{Float}
 use Rattle.float.specs.Sign.{finite_of}
 use Rattle.eos.specs.declared.types.Blend.{Blend}
 use Rattle.solver.specs.declared.types.Refusal.TheVariants.{NotConverged}
-use Rattle.solver.specs.declared.types.Answer.TheVariants.{Refused}
+use Rattle.std.specs.Prelude.{Ok, Err}
 use Rattle.solver.specs.declared.types.Ran.{Ran}
 use Rattle.solver.specs.Answer.{number_of, status_of, is27}
 use Rattle.solver.specs.Search.{Query, Yield, density_of, Evaluator, Search, run, Within, Ruled, next_of}
@@ -29,7 +29,7 @@ module _ {P : Type 0} (query : P → Query) (after : (p : P) → Yield (query p)
   ruled_rounds h (suc n) p = ruled_asks (λ (y : Yield (query p)). h p y (rounds query after n) (ruled_rounds h n))
 
   -- no round is left
-  pub rounds_over : (b : Blend) (p : P) (left n : ℕ) (w : Ran) → left ≤ 0 → ran b n (rounds query after left p) ≡ w → record { answer = Refused NotConverged; evaluations = n } ≡ w
+  pub rounds_over : (b : Blend) (p : P) (left n : ℕ) (w : Ran) → left ≤ 0 → ran b n (rounds query after left p) ≡ w → record { answer = Err NotConverged; evaluations = n } ≡ w
   unfolding run rounds
   rounds_over b p zero n w h e = e
   rounds_over b p (suc m) n w h e = absurd (omega arith)

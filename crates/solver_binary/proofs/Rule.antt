@@ -12,7 +12,7 @@ use Rattle.linear.specs.declared.types.Solved3.TheVariants as Three
 use Rattle.solver.specs.Answer.{number_of, status_of, is27}
 use Rattle.solver.specs.Search.{Evaluator, Search, clean, answer_of, Ruled}
 use Rattle.solver.proofs.Rule.{exactly_27, ruled_done, ruled_tested, ruled_cond}
-use Rattle.solver_critical.specs.declared.types.Start.{Start}
+use Rattle.std.specs.declared.option.Option.{Option}
 use Rattle.solver_critical.specs.CriticalPoint.{converged, solved}
 use Rattle.solver_critical.proofs.Rule.{ruled_tested6}
 use Rattle.solver_binary.specs.declared.types.Densities.{Densities}
@@ -31,7 +31,7 @@ module _ (maxdensity : Float) where
   unfolding after_conditions_t
   ruled_conditions_t p y again h = ruled_tested6 y (ruled_solve_t p y (solved y) again h)
 
-  pub temperature_27 : (ev : Evaluator) (z0 z1 t : Float) (density : Start)
+  pub temperature_27 : (ev : Evaluator) (z0 z1 t : Float) (density : Option Float)
       → is27 (answer_of ev (critical_point_binary_t maxdensity z0 z1 t density)) ≡ not (clean ev (critical_point_binary_t maxdensity z0 z1 t density))
   unfolding critical_point_binary_t
   temperature_27 ev z0 z1 t density = exactly_27 ev 0 (ruled_rounds (query_t t) (after_conditions_t maxdensity) ruled_conditions_t 200 _)
@@ -56,7 +56,7 @@ module _ (maxdensity : Float) where
   unfolding after_conditions_p
   ruled_conditions_p p y again h = ruled_tested12 y (ruled_solve_p p y (solved_p y) again h)
 
-  pub pressure_27 : (ev : Evaluator) (z0 z1 p : Float) (temperature density : Start)
+  pub pressure_27 : (ev : Evaluator) (z0 z1 p : Float) (temperature density : Option Float)
       → is27 (answer_of ev (critical_point_binary_p maxdensity z0 z1 p temperature density)) ≡ not (clean ev (critical_point_binary_p maxdensity z0 z1 p temperature density))
   unfolding critical_point_binary_p
   pressure_27 ev z0 z1 p temperature density = exactly_27 ev 0 (ruled_rounds (query_p p) (after_conditions_p maxdensity) ruled_conditions_p 200 _)

@@ -10,7 +10,7 @@ use Rattle.linear.specs.declared.types.Solved.TheVariants.{Delta, ZeroPivot}
 use Rattle.linear.specs.declared.types.Solved3.{Solved3}
 use Rattle.linear.specs.declared.types.Solved3.TheVariants as Three
 use Rattle.solver.specs.declared.types.Refusal.TheVariants.{NotFinite}
-use Rattle.solver.specs.declared.types.Answer.TheVariants.{Refused}
+use Rattle.std.specs.Prelude.{Ok, Err}
 use Rattle.solver.specs.Search.{Search, done, refuse, tested, settle}
 use Rattle.solver.proofs.Steps.{settle_tested, settled, cond_both}
 use Rattle.solver_critical.specs.CriticalPoint.{converged, solved}
@@ -18,23 +18,21 @@ use Rattle.solver_critical.specs.Rounds.{both_finite, finite6}
 use Rattle.solver_critical.proofs.Settles.{tests2, tests6}
 use Rattle.solver_binary.specs.declared.types.Densities.{Densities}
 use Rattle.solver_binary.specs.declared.types.Unknowns.{Unknowns}
-use Rattle.solver_binary.specs.declared.types.OutcomeT.{OutcomeT}
-use Rattle.solver_binary.specs.declared.types.OutcomeT.TheVariants as T
-use Rattle.solver_binary.specs.declared.types.OutcomeP.{OutcomeP}
-use Rattle.solver_binary.specs.declared.types.OutcomeP.TheVariants as P
+use Rattle.solver.specs.Answer.{Progress}
+use Rattle.std.specs.declared.ops.ControlFlow.TheVariants.{Break, Continue}
 use Rattle.solver_binary.specs.CriticalPointBinary.{answer_t, step_t, after_solve_t, after_conditions_t, answer_p, step_p, solved_p, converged_p, tested3, tested12, after_solve_p, after_conditions_p}
 use Rattle.solver_binary.specs.Rounds.{stepped_t, solved_round_t, round_t, finite3, finite12, stepped_p, solved_round_p, round_p}
 
 -- ---- kind 8
-unfoldable pub led_t : OutcomeT → (Densities → Search) → Search
-led_t (T.End a) again = done a
-led_t (T.Next p) again = again p
+unfoldable pub led_t : Progress Densities → (Densities → Search) → Search
+led_t (Break a) again = done a
+led_t (Continue p) again = again p
 
 module _ (maxdensity : Float) (again : Densities → Search) where
-  abbrev leads_t : OutcomeT → Search
+  abbrev leads_t : Progress Densities → Search
   leads_t o = settled (led_t o again)
 
-  cond_led_t : (b : Bool) (o : OutcomeT) → cond b (leads_t o) (refuse NotFinite) ≡ leads_t (cond b o (T.End (Refused NotFinite)))
+  cond_led_t : (b : Bool) (o : Progress Densities) → cond b (leads_t o) (refuse NotFinite) ≡ leads_t (cond b o (Break (Err NotFinite)))
   unfolding led_t settle
   cond_led_t true o = refl
   cond_led_t false o = refl
@@ -44,9 +42,9 @@ module _ (maxdensity : Float) (again : Densities → Search) where
   stepped_led_t e p =
       tests2 p.rho0 p.rho1 _
       ∙ ap (λ (s : Search). cond (both_finite p.rho0 p.rho1) s (refuse NotFinite)) (by e)
-      ∙ cond_led_t (both_finite p.rho0 p.rho1) (cond e (T.End (answer_t p)) (T.Next p))
+      ∙ cond_led_t (both_finite p.rho0 p.rho1) (cond e (Break (answer_t p)) (Continue p))
     where
-      by : (e : Bool) → settled (cond e (done (answer_t p)) (again p)) ≡ leads_t (cond e (T.End (answer_t p)) (T.Next p))
+      by : (e : Bool) → settled (cond e (done (answer_t p)) (again p)) ≡ leads_t (cond e (Break (answer_t p)) (Continue p))
       by true = refl
       by false = refl
 
@@ -77,15 +75,15 @@ tests12 y s =
     (tests3_more y.l.d0 y.l.d1 y.l.d2 _ _ _
     (tests3_more y.c2.d0 y.c2.d1 y.c2.d2 _ _ _ (tests3 y.p.d0 y.p.d1 y.p.d2 s)))
 
-unfoldable pub led_p : OutcomeP → (Unknowns → Search) → Search
-led_p (P.End a) again = done a
-led_p (P.Next p) again = again p
+unfoldable pub led_p : Progress Unknowns → (Unknowns → Search) → Search
+led_p (Break a) again = done a
+led_p (Continue p) again = again p
 
 module _ (maxdensity : Float) (again : Unknowns → Search) where
-  abbrev leads_p : OutcomeP → Search
+  abbrev leads_p : Progress Unknowns → Search
   leads_p o = settled (led_p o again)
 
-  cond_led_p : (b : Bool) (o : OutcomeP) → cond b (leads_p o) (refuse NotFinite) ≡ leads_p (cond b o (P.End (Refused NotFinite)))
+  cond_led_p : (b : Bool) (o : Progress Unknowns) → cond b (leads_p o) (refuse NotFinite) ≡ leads_p (cond b o (Break (Err NotFinite)))
   unfolding led_p settle
   cond_led_p true o = refl
   cond_led_p false o = refl
@@ -95,9 +93,9 @@ module _ (maxdensity : Float) (again : Unknowns → Search) where
   stepped_led_p e p =
       tests3 p.t p.rho0 p.rho1 _
       ∙ ap (λ (s : Search). cond (finite3 p.t p.rho0 p.rho1) s (refuse NotFinite)) (by e)
-      ∙ cond_led_p (finite3 p.t p.rho0 p.rho1) (cond e (P.End (answer_p p)) (P.Next p))
+      ∙ cond_led_p (finite3 p.t p.rho0 p.rho1) (cond e (Break (answer_p p)) (Continue p))
     where
-      by : (e : Bool) → settled (cond e (done (answer_p p)) (again p)) ≡ leads_p (cond e (P.End (answer_p p)) (P.Next p))
+      by : (e : Bool) → settled (cond e (done (answer_p p)) (again p)) ≡ leads_p (cond e (Break (answer_p p)) (Continue p))
       by true = refl
       by false = refl
 

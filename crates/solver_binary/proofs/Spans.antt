@@ -10,7 +10,7 @@ use Rattle.linear.specs.declared.types.Solved3.{Solved3}
 use Rattle.linear.specs.declared.types.Solved3.TheVariants as Three
 use Rattle.solver.specs.Search.{Search, Within}
 use Rattle.solver.proofs.Spans.{within_tested, within_cond}
-use Rattle.solver_critical.specs.declared.types.Start.{Start}
+use Rattle.std.specs.declared.option.Option.{Option}
 use Rattle.solver_critical.specs.CriticalPoint.{converged, solved}
 use Rattle.solver_critical.proofs.Spans.{within_tested6}
 use Rattle.solver_binary.specs.declared.types.Densities.{Densities}
@@ -29,7 +29,7 @@ module _ (maxdensity : Float) where
   unfolding after_conditions_t
   within_conditions_t n p y again h = within_tested6 y (within_solve_t n p y (solved y) again h)
 
-  pub temperature_200 : (z0 z1 t : Float) (density : Start) → Within 200 (critical_point_binary_t maxdensity z0 z1 t density)
+  pub temperature_200 : (z0 z1 t : Float) (density : Option Float) → Within 200 (critical_point_binary_t maxdensity z0 z1 t density)
   unfolding critical_point_binary_t
   temperature_200 z0 z1 t density = within_rounds (query_t t) (after_conditions_t maxdensity) within_conditions_t 200 _
 
@@ -53,6 +53,6 @@ module _ (maxdensity : Float) where
   unfolding after_conditions_p
   within_conditions_p n p y again h = within_tested12 y (within_solve_p n p y (solved_p y) again h)
 
-  pub pressure_200 : (z0 z1 p : Float) (temperature density : Start) → Within 200 (critical_point_binary_p maxdensity z0 z1 p temperature density)
+  pub pressure_200 : (z0 z1 p : Float) (temperature density : Option Float) → Within 200 (critical_point_binary_p maxdensity z0 z1 p temperature density)
   unfolding critical_point_binary_p
   pressure_200 z0 z1 p temperature density = within_rounds (query_p p) (after_conditions_p maxdensity) within_conditions_p 200 _

@@ -13,11 +13,11 @@ use Rattle.linear.specs.declared.types.Solved3.TheVariants as Three
 use Rattle.linear.specs.Linear.{solve3, norm_of3}
 use Rattle.solver.specs.Decimals.{d0·25, d0·03, d1e_8, d300}
 use Rattle.solver.specs.declared.types.Refusal.TheVariants.{NotConverged, IterationFailed}
-use Rattle.solver.specs.declared.types.Answer.{Answer}
-use Rattle.solver.specs.declared.types.Answer.TheVariants.{Found}
+use Rattle.solver.specs.Answer.{Answer}
+use Rattle.std.specs.Prelude.{Ok, Err}
 use Rattle.solver.specs.Search.{Query, Yield, Search, done, ask, refuse, tested, criticality_t, criticality_p}
-use Rattle.solver_critical.specs.declared.types.Start.{Start}
-use Rattle.solver_critical.specs.declared.types.Start.TheVariants.{None, Given}
+use Rattle.std.specs.declared.option.Option.{Option}
+use Rattle.std.specs.declared.option.Option.TheVariants.{None, Some}
 use Rattle.solver_critical.specs.CriticalPoint.{floored, solved, converged, tested6, start_density}
 use Rattle.solver_binary.specs.declared.types.Densities.{Densities}
 use Rattle.solver_binary.specs.declared.types.Unknowns.{Unknowns}
@@ -25,7 +25,7 @@ use Rattle.solver_binary.specs.declared.types.Unknowns.{Unknowns}
 -- ---- what both have
 
 -- `SVector::from([initial_molefracs[0], initial_molefracs[1]]) * rho_init`
-unfoldable pub start_densities : (maxdensity z0 z1 : Float) → Start → Densities
+unfoldable pub start_densities : (maxdensity z0 z1 : Float) → Option Float → Densities
 start_densities maxdensity z0 z1 density = let ρ = start_density maxdensity density in record { rho0 = z0 ⊗ ρ; rho1 = z1 ⊗ ρ }
 
 -- `if size > most { delta *= most / size }`: the factor is worked out first and scales every entry
@@ -42,7 +42,7 @@ module _ {P : Type 0} (query : P → Query) (after : (p : P) → Yield (query p)
 
 -- "Kind 8 hands out two partial densities"
 unfoldable pub answer_t : Densities → Answer
-answer_t p = Found (record { first = p.rho0; second = p.rho1; third = f0 })
+answer_t p = Ok (record { first = p.rho0; second = p.rho1; third = f0 })
 
 unfoldable pub scaled_t : Float → Densities → Densities
 scaled_t factor δ = record { rho0 = δ.rho0 ⊗ factor; rho1 = δ.rho1 ⊗ factor }
@@ -78,21 +78,21 @@ query_t t p = criticality_t t p.rho0 p.rho1
 abbrev pub search_t : (maxdensity t : Float) → ℕ → Densities → Search
 search_t maxdensity t = rounds (query_t t) (after_conditions_t maxdensity)
 
-unfoldable pub critical_point_binary_t : (maxdensity z0 z1 temperature : Float) → (density : Start) → Search
+unfoldable pub critical_point_binary_t : (maxdensity z0 z1 temperature : Float) → (density : Option Float) → Search
 critical_point_binary_t maxdensity z0 z1 temperature density = search_t maxdensity temperature 200 (start_densities maxdensity z0 z1 density)
 
 -- ---- kind 9
 
 -- "kind 9 temperature and two"
 unfoldable pub answer_p : Unknowns → Answer
-answer_p p = Found (record { first = p.t; second = p.rho0; third = p.rho1 })
+answer_p p = Ok (record { first = p.t; second = p.rho0; third = p.rho1 })
 
 -- "kind 9 reads +0 as 300"
-unfoldable pub start_temperature : Start → Float
+unfoldable pub start_temperature : Option Float → Float
 start_temperature None = d300
-start_temperature (Given t) = t
+start_temperature (Some t) = t
 
-unfoldable pub start_unknowns : (maxdensity z0 z1 : Float) → (temperature density : Start) → Unknowns
+unfoldable pub start_unknowns : (maxdensity z0 z1 : Float) → (temperature density : Option Float) → Unknowns
 start_unknowns maxdensity z0 z1 temperature density =
     let ρ = start_densities maxdensity z0 z1 density in
     record { t = start_temperature temperature; rho0 = ρ.rho0; rho1 = ρ.rho1 }
@@ -153,5 +153,5 @@ query_p pressure p = criticality_p pressure p.t p.rho0 p.rho1
 abbrev pub search_p : (maxdensity pressure : Float) → ℕ → Unknowns → Search
 search_p maxdensity pressure = rounds (query_p pressure) (after_conditions_p maxdensity)
 
-unfoldable pub critical_point_binary_p : (maxdensity z0 z1 pressure : Float) → (temperature density : Start) → Search
+unfoldable pub critical_point_binary_p : (maxdensity z0 z1 pressure : Float) → (temperature density : Option Float) → Search
 critical_point_binary_p maxdensity z0 z1 pressure temperature density = search_p maxdensity pressure 200 (start_unknowns maxdensity z0 z1 temperature density)

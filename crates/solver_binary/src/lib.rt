@@ -7,4 +7,4 @@ mod types;
 
 pub use crate::pressure::{critical_point_binary_p, round_p, start_unknowns};
 pub use crate::temperature::{critical_point_binary_t, round_t, start_densities};
-pub use crate::types::{Densities, OutcomeP, OutcomeT, Unknowns};
+pub use crate::types::{Densities, Unknowns};

@@ -8,19 +8,19 @@ ghost use Rattle.solver_binary.specs.CriticalPointBinary.{start_temperature, sta
 ghost use Rattle.solver_binary.specs.Rounds.{finite3, row_finite, finite12, stepped_p, round_p};
 
 use crate::temperature::start_densities;
-use crate::types::{OutcomeP, Unknowns};
+use crate::types::Unknowns;
 use eos::Blend;
 use evaluations::{Condition, PressureCriticality};
 use linear::Solved3;
-use solver::{Answer, Ran, Refusal, Values};
-use solver_critical::Start;
+use solver::{Answer, Progress, Ran, Refusal, Values};
+use std::ops::ControlFlow;
 
-fn start_temperature(temperature: Start) -> f64
+fn start_temperature(temperature: Option<f64>) -> f64
     ensures { result ≡ start_temperature temperature }
 {
     match temperature {
-        Start::None => 300.0,
-        Start::Given(t) => t,
+        None => 300.0,
+        Some(t) => t,
     }
 }
 
@@ -29,8 +29,8 @@ pub fn start_unknowns(
     maxdensity: f64,
     z0: f64,
     z1: f64,
-    temperature: Start,
-    density: Start,
+    temperature: Option<f64>,
+    density: Option<f64>,
 ) -> Unknowns
     ensures { result ≡ start_unknowns maxdensity z0 z1 temperature density }
 {
@@ -51,7 +51,7 @@ fn answer_p(p: Unknowns) -> Answer
         second: p.rho0,
         third: p.rho1,
     };
-    Answer::Found(found)
+    Ok(found)
 }
 
 // a step whose entry of this size is above `most`, scaled down as a whole
@@ -150,24 +150,24 @@ fn solved_p(y: PressureCriticality) -> Solved3
 }
 
 // where a step that leads to p goes on
-fn stepped_p(ended: bool, p: Unknowns) -> OutcomeP
+fn stepped_p(ended: bool, p: Unknowns) -> Progress<Unknowns>
     ensures { result ≡ stepped_p ended p }
 {
     if !three_finite(p.t, p.rho0, p.rho1) {
-        return OutcomeP::End(Answer::Refused(Refusal::NotFinite));
+        return ControlFlow::Break(Err(Refusal::NotFinite));
     }
     if ended {
-        return OutcomeP::End(answer_p(p));
+        return ControlFlow::Break(answer_p(p));
     }
-    OutcomeP::Next(p)
+    ControlFlow::Continue(p)
 }
 
 // a round at p, with its tests for 27
-pub fn round_p(maxdensity: f64, p: Unknowns, y: PressureCriticality) -> OutcomeP
+pub fn round_p(maxdensity: f64, p: Unknowns, y: PressureCriticality) -> Progress<Unknowns>
     ensures { result ≡ round_p maxdensity p y }
 {
     if !all_finite(y) {
-        return OutcomeP::End(Answer::Refused(Refusal::NotFinite));
+        return ControlFlow::Break(Err(Refusal::NotFinite));
     }
     let delta = solved_p(y);
     match delta {
@@ -177,7 +177,7 @@ pub fn round_p(maxdensity: f64, p: Unknowns, y: PressureCriticality) -> OutcomeP
                 step_p(maxdensity, p, Unknowns { t, rho0, rho1 }),
             )
         }
-        Solved3::ZeroPivot => OutcomeP::End(Answer::Refused(Refusal::IterationFailed)),
+        Solved3::ZeroPivot => ControlFlow::Break(Err(Refusal::IterationFailed)),
     }
 }
 
@@ -194,19 +194,19 @@ fn search_p(blend: Blend, maxdensity: f64, pressure: f64, start: Unknowns) -> Ra
         let y = evaluations::criticality_conditions_p(blend, pressure, p.t, p.rho0, p.rho1);
         let outcome = round_p(maxdensity, p, y);
         match outcome {
-            OutcomeP::End(answer) => {
+            ControlFlow::Break(answer) => {
                 return Ran {
                     answer,
                     evaluations,
                 };
             }
-            OutcomeP::Next(next) => {
+            ControlFlow::Continue(next) => {
                 p = next;
             }
         }
     }
     Ran {
-        answer: Answer::Refused(Refusal::NotConverged),
+        answer: Err(Refusal::NotConverged),
         evaluations,
     }
 }
@@ -215,8 +215,8 @@ fn search_p(blend: Blend, maxdensity: f64, pressure: f64, start: Unknowns) -> Ra
 pub fn critical_point_binary_p(
     blend: Blend,
     pressure: f64,
-    temperature: Start,
-    density: Start,
+    temperature: Option<f64>,
+    density: Option<f64>,
 ) -> Ran
     ensures { result ≡ run finite_of (evaluated blend) 0 (critical_point_binary_p (max_density blend) (nth blend.x 0) (nth blend.x 1) pressure temperature density) }
 {

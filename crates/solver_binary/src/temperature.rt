@@ -7,15 +7,15 @@ ghost use Rattle.solver.specs.Evaluated.{evaluated};
 ghost use Rattle.solver_binary.specs.CriticalPointBinary.{start_densities, answer_t, scaled_t, limited, reduced_t, step_t, search_t, critical_point_binary_t};
 ghost use Rattle.solver_binary.specs.Rounds.{stepped_t, round_t};
 
-use crate::types::{Densities, OutcomeT};
+use crate::types::Densities;
 use eos::Blend;
 use evaluations::Criticality;
 use linear::Solved;
-use solver::{Answer, Ran, Refusal, Values};
-use solver_critical::Start;
+use solver::{Answer, Progress, Ran, Refusal, Values};
+use std::ops::ControlFlow;
 
 // the partial densities that a search starts from, z0 and z1 being the fractions
-pub fn start_densities(maxdensity: f64, z0: f64, z1: f64, density: Start) -> Densities
+pub fn start_densities(maxdensity: f64, z0: f64, z1: f64, density: Option<f64>) -> Densities
     ensures { result ≡ start_densities maxdensity z0 z1 density }
 {
     let rho = solver_critical::start_density(maxdensity, density);
@@ -34,7 +34,7 @@ fn answer_t(p: Densities) -> Answer
         second: p.rho1,
         third: 0.0,
     };
-    Answer::Found(found)
+    Ok(found)
 }
 
 // a step whose entry of this size is above `most`, scaled down as a whole
@@ -72,24 +72,24 @@ fn step_t(maxdensity: f64, p: Densities, delta: Densities) -> Densities
 }
 
 // where a step that leads to p goes on
-fn stepped_t(ended: bool, p: Densities) -> OutcomeT
+fn stepped_t(ended: bool, p: Densities) -> Progress<Densities>
     ensures { result ≡ stepped_t ended p }
 {
     if !solver_critical::both_finite(p.rho0, p.rho1) {
-        return OutcomeT::End(Answer::Refused(Refusal::NotFinite));
+        return ControlFlow::Break(Err(Refusal::NotFinite));
     }
     if ended {
-        return OutcomeT::End(answer_t(p));
+        return ControlFlow::Break(answer_t(p));
     }
-    OutcomeT::Next(p)
+    ControlFlow::Continue(p)
 }
 
 // a round at p, with its tests for 27
-pub fn round_t(maxdensity: f64, p: Densities, y: Criticality) -> OutcomeT
+pub fn round_t(maxdensity: f64, p: Densities, y: Criticality) -> Progress<Densities>
     ensures { result ≡ round_t maxdensity p y }
 {
     if !solver_critical::all_finite(y) {
-        return OutcomeT::End(Answer::Refused(Refusal::NotFinite));
+        return ControlFlow::Break(Err(Refusal::NotFinite));
     }
     let delta = solver_critical::solved(y);
     match delta {
@@ -99,7 +99,7 @@ pub fn round_t(maxdensity: f64, p: Densities, y: Criticality) -> OutcomeT
                 step_t(maxdensity, p, Densities { rho0, rho1 }),
             )
         }
-        Solved::ZeroPivot => OutcomeT::End(Answer::Refused(Refusal::IterationFailed)),
+        Solved::ZeroPivot => ControlFlow::Break(Err(Refusal::IterationFailed)),
     }
 }
 
@@ -116,25 +116,25 @@ fn search_t(blend: Blend, maxdensity: f64, t: f64, start: Densities) -> Ran
         let y = evaluations::criticality_conditions_t(blend, t, p.rho0, p.rho1);
         let outcome = round_t(maxdensity, p, y);
         match outcome {
-            OutcomeT::End(answer) => {
+            ControlFlow::Break(answer) => {
                 return Ran {
                     answer,
                     evaluations,
                 };
             }
-            OutcomeT::Next(next) => {
+            ControlFlow::Continue(next) => {
                 p = next;
             }
         }
     }
     Ran {
-        answer: Answer::Refused(Refusal::NotConverged),
+        answer: Err(Refusal::NotConverged),
         evaluations,
     }
 }
 
 // Kind 8. Hands out two partial densities.
-pub fn critical_point_binary_t(blend: Blend, temperature: f64, density: Start) -> Ran
+pub fn critical_point_binary_t(blend: Blend, temperature: f64, density: Option<f64>) -> Ran
     ensures { result ≡ run finite_of (evaluated blend) 0 (critical_point_binary_t (max_density blend) (nth blend.x 0) (nth blend.x 1) temperature density) }
 {
     let maxdensity = eos::compute_max_density(blend);

@@ -4,18 +4,15 @@ use Prim.Native.Nat.{ℕ, zero, suc, ◌-◌}
 use native.Mathlib.Omega.{arith}
 use Rattle.solver_binary.specs.declared.types.Densities.{Densities}
 use Rattle.solver_binary.specs.declared.types.Unknowns.{Unknowns}
-use Rattle.solver_binary.specs.declared.types.OutcomeT.TheVariants as T
-use Rattle.solver_binary.specs.declared.types.OutcomeP.TheVariants as P
-use Rattle.solver_binary_step.specs.declared.types.TemperaturePlace.TheVariants as Temperature
-use Rattle.solver_binary_step.specs.declared.types.PressurePlace.TheVariants as Pressure
+use Rattle.std.specs.declared.ops.ControlFlow.TheVariants.{Break, Continue}
 use Rattle.solver_binary_step.specs.BinaryStep.{temperature_on, pressure_on}
 
-pub temperature_more : (n : ℕ) (p : Densities) → (n ≡ 0 → ⊥) → Temperature.At (record { rounds = n - 1; p = p }) ≡ temperature_on n (T.Next p)
+pub temperature_more : (n : ℕ) (p : Densities) → (n ≡ 0 → ⊥) → Continue (record { rounds = n - 1; p = p }) ≡ temperature_on n (Continue p)
 unfolding temperature_on
 temperature_more zero p h = absurd (h refl)
 temperature_more (suc n) p h = let q : suc n - 1 ≡ n = omega arith in rw q
 
-pub pressure_more : (n : ℕ) (p : Unknowns) → (n ≡ 0 → ⊥) → Pressure.At (record { rounds = n - 1; p = p }) ≡ pressure_on n (P.Next p)
+pub pressure_more : (n : ℕ) (p : Unknowns) → (n ≡ 0 → ⊥) → Continue (record { rounds = n - 1; p = p }) ≡ pressure_on n (Continue p)
 unfolding pressure_on
 pressure_more zero p h = absurd (h refl)
 pressure_more (suc n) p h = let q : suc n - 1 ≡ n = omega arith in rw q

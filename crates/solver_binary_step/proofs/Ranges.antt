@@ -6,15 +6,13 @@ use lib.Ieee.{Float}
 use Rattle.solver.specs.Stored.{status_fits}
 use Rattle.solver.specs.Search.{Evaluator}
 use Rattle.solver.proofs.Ranges.{FitsBelow, below, fits, ended_below}
-use Rattle.solver_critical.specs.declared.types.Start.{Start}
-use Rattle.solver_binary.specs.declared.types.OutcomeT.{OutcomeT}
-use Rattle.solver_binary.specs.declared.types.OutcomeT.TheVariants as T
-use Rattle.solver_binary.specs.declared.types.OutcomeP.{OutcomeP}
-use Rattle.solver_binary.specs.declared.types.OutcomeP.TheVariants as P
+use Rattle.std.specs.declared.option.Option.{Option}
+use Rattle.solver.specs.Answer.{Progress}
+use Rattle.solver_binary.specs.declared.types.Densities.{Densities}
+use Rattle.std.specs.declared.ops.ControlFlow.TheVariants.{Break, Continue}
+use Rattle.solver_binary.specs.declared.types.Unknowns.{Unknowns}
 use Rattle.solver_binary_step.specs.declared.types.TemperatureSpot.{TemperatureSpot}
-use Rattle.solver_binary_step.specs.declared.types.TemperaturePlace.TheVariants as Temperature
 use Rattle.solver_binary_step.specs.declared.types.PressureSpot.{PressureSpot}
-use Rattle.solver_binary_step.specs.declared.types.PressurePlace.TheVariants as Pressure
 use Rattle.solver_binary_step.specs.BinaryStep.{temperature_on, temperature_begin, temperature_next, pressure_on, pressure_begin, pressure_next}
 use Rattle.solver_binary_step.specs.Stored.{spot_numbers, temperature_numbers, pressure_numbers}
 
@@ -24,31 +22,31 @@ unfolding spot_numbers status_fits
 asks_fits rounds x y z h = fits 200 _ (record { stage = omega arith; tag = omega arith; status = refl; left = omega arith; way = omega arith; rounds = h })
 
 -- ---- kind 8
-temperature_on_fits : (n : ℕ) (o : OutcomeT) → n < 200 → FitsBelow 200 (temperature_numbers (temperature_on n o))
+temperature_on_fits : (n : ℕ) (o : Progress Densities) → n < 200 → FitsBelow 200 (temperature_numbers (temperature_on n o))
 unfolding temperature_numbers temperature_on
-temperature_on_fits n (T.End a) h = ended_below 200 a (omega arith)
-temperature_on_fits zero (T.Next p) h = ended_below 200 _ (omega arith)
-temperature_on_fits (suc n) (T.Next p) h = asks_fits n _ _ _ (omega arith)
+temperature_on_fits n (Break a) h = ended_below 200 a (omega arith)
+temperature_on_fits zero (Continue p) h = ended_below 200 _ (omega arith)
+temperature_on_fits (suc n) (Continue p) h = asks_fits n _ _ _ (omega arith)
 
-pub temperature_kept : (maxdensity t : Float) (ev : Evaluator) (s : TemperatureSpot) → FitsBelow 200 (temperature_numbers (Temperature.At s)) → FitsBelow 200 (temperature_numbers (temperature_next maxdensity t ev s))
+pub temperature_kept : (maxdensity t : Float) (ev : Evaluator) (s : TemperatureSpot) → FitsBelow 200 (temperature_numbers (Continue s)) → FitsBelow 200 (temperature_numbers (temperature_next maxdensity t ev s))
 unfolding temperature_next
 temperature_kept maxdensity t ev s e = temperature_on_fits s.rounds _ (unfold temperature_numbers spot_numbers in (below 200 _ e).rounds)
 
-pub temperature_begin_fits : (maxdensity : Float) (z0 z1 : Float) (density : Start) → FitsBelow 200 (temperature_numbers (temperature_begin maxdensity z0 z1 density))
+pub temperature_begin_fits : (maxdensity : Float) (z0 z1 : Float) (density : Option Float) → FitsBelow 200 (temperature_numbers (temperature_begin maxdensity z0 z1 density))
 unfolding temperature_numbers temperature_begin
 temperature_begin_fits maxdensity z0 z1 density = asks_fits 199 _ _ _ (omega arith)
 
 -- ---- kind 9
-pressure_on_fits : (n : ℕ) (o : OutcomeP) → n < 200 → FitsBelow 200 (pressure_numbers (pressure_on n o))
+pressure_on_fits : (n : ℕ) (o : Progress Unknowns) → n < 200 → FitsBelow 200 (pressure_numbers (pressure_on n o))
 unfolding pressure_numbers pressure_on
-pressure_on_fits n (P.End a) h = ended_below 200 a (omega arith)
-pressure_on_fits zero (P.Next p) h = ended_below 200 _ (omega arith)
-pressure_on_fits (suc n) (P.Next p) h = asks_fits n _ _ _ (omega arith)
+pressure_on_fits n (Break a) h = ended_below 200 a (omega arith)
+pressure_on_fits zero (Continue p) h = ended_below 200 _ (omega arith)
+pressure_on_fits (suc n) (Continue p) h = asks_fits n _ _ _ (omega arith)
 
-pub pressure_kept : (maxdensity pressure : Float) (ev : Evaluator) (s : PressureSpot) → FitsBelow 200 (pressure_numbers (Pressure.At s)) → FitsBelow 200 (pressure_numbers (pressure_next maxdensity pressure ev s))
+pub pressure_kept : (maxdensity pressure : Float) (ev : Evaluator) (s : PressureSpot) → FitsBelow 200 (pressure_numbers (Continue s)) → FitsBelow 200 (pressure_numbers (pressure_next maxdensity pressure ev s))
 unfolding pressure_next
 pressure_kept maxdensity pressure ev s e = pressure_on_fits s.rounds _ (unfold pressure_numbers spot_numbers in (below 200 _ e).rounds)
 
-pub pressure_begin_fits : (maxdensity : Float) (z0 z1 : Float) (temperature density : Start) → FitsBelow 200 (pressure_numbers (pressure_begin maxdensity z0 z1 temperature density))
+pub pressure_begin_fits : (maxdensity : Float) (z0 z1 : Float) (temperature density : Option Float) → FitsBelow 200 (pressure_numbers (pressure_begin maxdensity z0 z1 temperature density))
 unfolding pressure_numbers pressure_begin
 pressure_begin_fits maxdensity z0 z1 temperature density = asks_fits 199 _ _ _ (omega arith)

@@ -4,11 +4,9 @@ use Rattle.float.specs.Ops.{f0}
 use Rattle.solver.specs.declared.types.Numbers.{Numbers}
 use Rattle.solver.specs.Stored.{answer_by, ended_numbers}
 use Rattle.solver_binary_step.specs.declared.types.TemperatureSpot.{TemperatureSpot}
-use Rattle.solver_binary_step.specs.declared.types.TemperaturePlace.{TemperaturePlace}
-use Rattle.solver_binary_step.specs.declared.types.TemperaturePlace.TheVariants as Temperature
+use Rattle.solver.specs.Answer.{Progress}
+use Rattle.std.specs.declared.ops.ControlFlow.TheVariants.{Break, Continue}
 use Rattle.solver_binary_step.specs.declared.types.PressureSpot.{PressureSpot}
-use Rattle.solver_binary_step.specs.declared.types.PressurePlace.{PressurePlace}
-use Rattle.solver_binary_step.specs.declared.types.PressurePlace.TheVariants as Pressure
 
 -- a place that asks
 unfoldable pub spot_numbers : (rounds : ℕ) (x y z : Float) → Numbers
@@ -19,23 +17,23 @@ spot_numbers rounds x y z =
     }
 
 -- ---- kind 8
-unfoldable pub temperature_numbers : TemperaturePlace → Numbers
-temperature_numbers (Temperature.Ended a) = ended_numbers a
-temperature_numbers (Temperature.At s) = spot_numbers s.rounds s.p.rho0 s.p.rho1 f0
+unfoldable pub temperature_numbers : Progress TemperatureSpot → Numbers
+temperature_numbers (Break a) = ended_numbers a
+temperature_numbers (Continue s) = spot_numbers s.rounds s.p.rho0 s.p.rho1 f0
 
 unfoldable pub temperature_spot_by : Numbers → TemperatureSpot
 temperature_spot_by n = record { rounds = n.counters.rounds; p = record { rho0 = n.values.first; rho1 = n.values.second } }
 
-unfoldable pub temperature_place_by : Numbers → TemperaturePlace
-temperature_place_by n = cond (eqb n.counters.tag 0) (Temperature.Ended (answer_by n.counters.status n.values)) (Temperature.At (temperature_spot_by n))
+unfoldable pub temperature_place_by : Numbers → Progress TemperatureSpot
+temperature_place_by n = cond (eqb n.counters.tag 0) (Break (answer_by n.counters.status n.values)) (Continue (temperature_spot_by n))
 
 -- ---- kind 9
-unfoldable pub pressure_numbers : PressurePlace → Numbers
-pressure_numbers (Pressure.Ended a) = ended_numbers a
-pressure_numbers (Pressure.At s) = spot_numbers s.rounds s.p.t s.p.rho0 s.p.rho1
+unfoldable pub pressure_numbers : Progress PressureSpot → Numbers
+pressure_numbers (Break a) = ended_numbers a
+pressure_numbers (Continue s) = spot_numbers s.rounds s.p.t s.p.rho0 s.p.rho1
 
 unfoldable pub pressure_spot_by : Numbers → PressureSpot
 pressure_spot_by n = record { rounds = n.counters.rounds; p = record { t = n.values.first; rho0 = n.values.second; rho1 = n.values.third } }
 
-unfoldable pub pressure_place_by : Numbers → PressurePlace
-pressure_place_by n = cond (eqb n.counters.tag 0) (Pressure.Ended (answer_by n.counters.status n.values)) (Pressure.At (pressure_spot_by n))
+unfoldable pub pressure_place_by : Numbers → Progress PressureSpot
+pressure_place_by n = cond (eqb n.counters.tag 0) (Break (answer_by n.counters.status n.values)) (Continue (pressure_spot_by n))

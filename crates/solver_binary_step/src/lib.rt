@@ -11,4 +11,4 @@ pub use crate::stored::{
     pressure_numbers, pressure_place_by, temperature_numbers, temperature_place_by,
 };
 pub use crate::temperature::{temperature_at, temperature_begin, temperature_next};
-pub use crate::types::{PressurePlace, PressureSpot, TemperaturePlace, TemperatureSpot};
+pub use crate::types::{PressureSpot, TemperatureSpot};

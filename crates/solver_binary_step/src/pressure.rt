@@ -3,23 +3,23 @@ ghost use Rattle.std.specs.Prelude.{◌≡◌};
 ghost use Rattle.solver.specs.Evaluated.{evaluated};
 ghost use Rattle.solver_binary_step.specs.BinaryStep.{pressure_on, pressure_begin, pressure_at, pressure_next};
 
-use crate::types::{PressurePlace, PressureSpot};
+use crate::types::PressureSpot;
 use eos::Blend;
-use solver::{Answer, Refusal};
-use solver_binary::OutcomeP;
-use solver_critical::Start;
+use solver::{Progress, Refusal};
+use solver_binary::Unknowns;
+use std::ops::ControlFlow;
 
 // where a round leads, `rounds` being left
-fn pressure_on(rounds: u64, outcome: OutcomeP) -> PressurePlace
+fn pressure_on(rounds: u64, outcome: Progress<Unknowns>) -> Progress<PressureSpot>
     ensures { result ≡ pressure_on rounds outcome }
 {
     match outcome {
-        OutcomeP::End(answer) => PressurePlace::Ended(answer),
-        OutcomeP::Next(p) => {
+        ControlFlow::Break(answer) => ControlFlow::Break(answer),
+        ControlFlow::Continue(p) => {
             if rounds == 0 {
-                return PressurePlace::Ended(Answer::Refused(Refusal::NotConverged));
+                return ControlFlow::Break(Err(Refusal::NotConverged));
             }
-            PressurePlace::At(PressureSpot {
+            ControlFlow::Continue(PressureSpot {
                 rounds: rounds - 1,
                 p,
             })
@@ -32,13 +32,13 @@ pub fn pressure_begin(
     maxdensity: f64,
     z0: f64,
     z1: f64,
-    temperature: Start,
-    density: Start,
-) -> PressurePlace
+    temperature: Option<f64>,
+    density: Option<f64>,
+) -> Progress<PressureSpot>
     ensures { result ≡ pressure_begin maxdensity z0 z1 temperature density }
 {
     let p = solver_binary::start_unknowns(maxdensity, z0, z1, temperature, density);
-    PressurePlace::At(PressureSpot { rounds: 199, p })
+    ControlFlow::Continue(PressureSpot { rounds: 199, p })
 }
 
 // the density that a look shows of a spot's evaluation
@@ -55,7 +55,7 @@ pub fn pressure_next(
     maxdensity: f64,
     pressure: f64,
     spot: PressureSpot,
-) -> PressurePlace
+) -> Progress<PressureSpot>
     ensures { result ≡ pressure_next maxdensity pressure (evaluated blend) spot }
 {
     let p = spot.p;

@@ -2,9 +2,10 @@
 ghost use Rattle.std.specs.Prelude.{◌≡◌};
 ghost use Rattle.solver_binary_step.specs.Stored.{spot_numbers, temperature_numbers, temperature_spot_by, temperature_place_by, pressure_numbers, pressure_spot_by, pressure_place_by};
 
-use crate::types::{PressurePlace, PressureSpot, TemperaturePlace, TemperatureSpot};
-use solver::{Counters, Numbers, Values};
+use crate::types::{PressureSpot, TemperatureSpot};
+use solver::{Counters, Numbers, Progress, Values};
 use solver_binary::{Densities, Unknowns};
+use std::ops::ControlFlow;
 
 fn spot_numbers(rounds: u64, first: f64, second: f64, third: f64) -> Numbers
     ensures { result ≡ spot_numbers rounds first second third }
@@ -25,12 +26,12 @@ fn spot_numbers(rounds: u64, first: f64, second: f64, third: f64) -> Numbers
     Numbers { counters, values }
 }
 
-pub fn temperature_numbers(place: TemperaturePlace) -> Numbers
+pub fn temperature_numbers(place: Progress<TemperatureSpot>) -> Numbers
     ensures { result ≡ temperature_numbers place }
 {
     match place {
-        TemperaturePlace::Ended(answer) => solver::ended_numbers(answer),
-        TemperaturePlace::At(spot) => {
+        ControlFlow::Break(answer) => solver::ended_numbers(answer),
+        ControlFlow::Continue(spot) => {
             let p = spot.p;
             spot_numbers(spot.rounds, p.rho0, p.rho1, 0.0)
         }
@@ -52,23 +53,23 @@ fn temperature_spot_by(n: Numbers) -> TemperatureSpot
     }
 }
 
-pub fn temperature_place_by(n: Numbers) -> TemperaturePlace
+pub fn temperature_place_by(n: Numbers) -> Progress<TemperatureSpot>
     ensures { result ≡ temperature_place_by n }
 {
     let counters = n.counters;
     let values = n.values;
     if counters.tag == 0 {
-        return TemperaturePlace::Ended(solver::answer_by(counters.status, values));
+        return ControlFlow::Break(solver::answer_by(counters.status, values));
     }
-    TemperaturePlace::At(temperature_spot_by(n))
+    ControlFlow::Continue(temperature_spot_by(n))
 }
 
-pub fn pressure_numbers(place: PressurePlace) -> Numbers
+pub fn pressure_numbers(place: Progress<PressureSpot>) -> Numbers
     ensures { result ≡ pressure_numbers place }
 {
     match place {
-        PressurePlace::Ended(answer) => solver::ended_numbers(answer),
-        PressurePlace::At(spot) => {
+        ControlFlow::Break(answer) => solver::ended_numbers(answer),
+        ControlFlow::Continue(spot) => {
             let p = spot.p;
             spot_numbers(spot.rounds, p.t, p.rho0, p.rho1)
         }
@@ -91,13 +92,13 @@ fn pressure_spot_by(n: Numbers) -> PressureSpot
     }
 }
 
-pub fn pressure_place_by(n: Numbers) -> PressurePlace
+pub fn pressure_place_by(n: Numbers) -> Progress<PressureSpot>
     ensures { result ≡ pressure_place_by n }
 {
     let counters = n.counters;
     let values = n.values;
     if counters.tag == 0 {
-        return PressurePlace::Ended(solver::answer_by(counters.status, values));
+        return ControlFlow::Break(solver::answer_by(counters.status, values));
     }
-    PressurePlace::At(pressure_spot_by(n))
+    ControlFlow::Continue(pressure_spot_by(n))
 }

@@ -3,23 +3,23 @@ ghost use Rattle.std.specs.Prelude.{◌≡◌};
 ghost use Rattle.solver.specs.Evaluated.{evaluated};
 ghost use Rattle.solver_binary_step.specs.BinaryStep.{temperature_on, temperature_begin, temperature_at, temperature_next};
 
-use crate::types::{TemperaturePlace, TemperatureSpot};
+use crate::types::TemperatureSpot;
 use eos::Blend;
-use solver::{Answer, Refusal};
-use solver_binary::OutcomeT;
-use solver_critical::Start;
+use solver::{Progress, Refusal};
+use solver_binary::Densities;
+use std::ops::ControlFlow;
 
 // where a round leads, `rounds` being left
-fn temperature_on(rounds: u64, outcome: OutcomeT) -> TemperaturePlace
+fn temperature_on(rounds: u64, outcome: Progress<Densities>) -> Progress<TemperatureSpot>
     ensures { result ≡ temperature_on rounds outcome }
 {
     match outcome {
-        OutcomeT::End(answer) => TemperaturePlace::Ended(answer),
-        OutcomeT::Next(p) => {
+        ControlFlow::Break(answer) => ControlFlow::Break(answer),
+        ControlFlow::Continue(p) => {
             if rounds == 0 {
-                return TemperaturePlace::Ended(Answer::Refused(Refusal::NotConverged));
+                return ControlFlow::Break(Err(Refusal::NotConverged));
             }
-            TemperaturePlace::At(TemperatureSpot {
+            ControlFlow::Continue(TemperatureSpot {
                 rounds: rounds - 1,
                 p,
             })
@@ -28,11 +28,16 @@ fn temperature_on(rounds: u64, outcome: OutcomeT) -> TemperaturePlace
 }
 
 // where a search begins, z0 and z1 being the fractions
-pub fn temperature_begin(maxdensity: f64, z0: f64, z1: f64, density: Start) -> TemperaturePlace
+pub fn temperature_begin(
+    maxdensity: f64,
+    z0: f64,
+    z1: f64,
+    density: Option<f64>,
+) -> Progress<TemperatureSpot>
     ensures { result ≡ temperature_begin maxdensity z0 z1 density }
 {
     let p = solver_binary::start_densities(maxdensity, z0, z1, density);
-    TemperaturePlace::At(TemperatureSpot { rounds: 199, p })
+    ControlFlow::Continue(TemperatureSpot { rounds: 199, p })
 }
 
 // the density that a look shows of a spot's evaluation
@@ -49,7 +54,7 @@ pub fn temperature_next(
     maxdensity: f64,
     t: f64,
     spot: TemperatureSpot,
-) -> TemperaturePlace
+) -> Progress<TemperatureSpot>
     ensures { result ≡ temperature_next maxdensity t (evaluated blend) spot }
 {
     let p = spot.p;

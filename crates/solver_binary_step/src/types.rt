@@ -1,5 +1,4 @@
 // The places of the searches of kinds 8 and 9 that ask for an evaluation, each with the numbers that it goes on from.
-use solver::Answer;
 use solver_binary::{Densities, Unknowns};
 
 // In critical_point_binary_t: the rounds left after this one, and the partial densities.
@@ -9,21 +8,9 @@ pub struct TemperatureSpot {
     pub p: Densities,
 }
 
-#[derive(Clone, Copy)]
-pub enum TemperaturePlace {
-    Ended(Answer),
-    At(TemperatureSpot),
-}
-
 // In critical_point_binary_p: the rounds left after this one, and the temperature and partial densities.
 #[derive(Clone, Copy)]
 pub struct PressureSpot {
     pub rounds: u64,
     pub p: Unknowns,
-}
-
-#[derive(Clone, Copy)]
-pub enum PressurePlace {
-    Ended(Answer),
-    At(PressureSpot),
 }

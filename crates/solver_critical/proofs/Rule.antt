@@ -13,13 +13,13 @@ use Rattle.solver.specs.Decimals.{d1e_8}
 use Rattle.solver.specs.declared.types.DensityInitialization.{DensityInitialization}
 use Rattle.solver.specs.declared.types.DensityInitialization.TheVariants.{Vapor, InitialDensity}
 use Rattle.solver.specs.declared.types.Values.{Values}
-use Rattle.solver.specs.declared.types.Answer.{Answer}
-use Rattle.solver.specs.declared.types.Answer.TheVariants.{Found, Refused}
+use Rattle.solver.specs.Answer.{Answer}
+use Rattle.std.specs.Prelude.{Ok, Err}
 use Rattle.solver.specs.Answer.{number_of, status_of, is27}
 use Rattle.solver.specs.Search.{Evaluator, Search, run, clean, answer_of, Ruled}
 use Rattle.solver.proofs.Rule.{exactly_27, answer_bind, then_told, then_never, ruled_done, ruled_asks, ruled_tested, ruled_cond}
-use Rattle.solver_critical.specs.declared.types.Start.{Start}
-use Rattle.solver_critical.specs.declared.types.Start.TheVariants.{None, Given}
+use Rattle.std.specs.declared.option.Option.{Option}
+use Rattle.std.specs.declared.option.Option.TheVariants.{None, Some}
 use Rattle.solver_critical.specs.declared.types.Point.{Point}
 use Rattle.solver_critical.specs.CriticalPoint.{critical_answer, solved, converged, tested6, after_solve, after_conditions, or_else, trial_temperatures, start_density, hkm_from, critical_point_hkm, trials, from_temperature, critical_point}
 use Rattle.solver_critical.specs.Spinodal.{spinodal_answer, both_answer, liquid_start, stability_step, after_stability, spinodal_from, calculate_spinodal, after_liquid, after_vapor, after_critical, spinodal}
@@ -63,14 +63,14 @@ module _ (ev : Evaluator) (maxdensity : Float) where
       ap is27 (answer_bind ev (critical_point_hkm maxdensity t ρ) (or_else (trials maxdensity ρ ts))) ∙ go (answer_of ev (critical_point_hkm maxdensity t ρ)) (trials_27 ρ ts)
     where
       go : (a : Answer) → is27 (answer_of ev (trials maxdensity ρ ts)) ≡ false → is27 (answer_of ev (or_else (trials maxdensity ρ ts) a)) ≡ false
-      go (Found v) h = refl
-      go (Refused r) h = h
+      go (Ok v) h = refl
+      go (Err r) h = h
 
   -- ---- the theorems
-  pub critical_27 : (temperature density : Start) → is27 (answer_of ev (critical_point maxdensity temperature density)) ≡ critical_not_finite ev maxdensity temperature density
+  pub critical_27 : (temperature density : Option Float) → is27 (answer_of ev (critical_point maxdensity temperature density)) ≡ critical_not_finite ev maxdensity temperature density
   unfolding critical_point from_temperature critical_not_finite
   critical_27 None density = trials_27 (start_density maxdensity density) trial_temperatures
-  critical_27 (Given t) density = trial_27 t (start_density maxdensity density)
+  critical_27 (Some t) density = trial_27 t (start_density maxdensity density)
 
   module _ (t : Float) where
     after_vapor_lem : (critical vapor : Values) → is27 (answer_of ev (after_vapor maxdensity t critical.second vapor))

@@ -9,15 +9,13 @@ use Rattle.linear.specs.declared.types.Solved.{Solved}
 use Rattle.linear.specs.declared.types.Solved.TheVariants.{Delta, ZeroPivot}
 use Rattle.solver.specs.Decimals.{d1e_8}
 use Rattle.solver.specs.declared.types.Refusal.TheVariants.{NotFinite}
-use Rattle.solver.specs.declared.types.Answer.{Answer}
-use Rattle.solver.specs.declared.types.Answer.TheVariants.{Refused}
+use Rattle.solver.specs.Answer.{Answer}
+use Rattle.std.specs.Prelude.{Ok, Err}
 use Rattle.solver.specs.Search.{Search, done, refuse, tested, bind, settle}
 use Rattle.solver.proofs.Steps.{settle_tested, settled, cond_both, settled_bind}
 use Rattle.solver_critical.specs.declared.types.Point.{Point}
-use Rattle.solver_critical.specs.declared.types.CriticalOutcome.{CriticalOutcome}
-use Rattle.solver_critical.specs.declared.types.CriticalOutcome.TheVariants.{End, Next}
-use Rattle.solver_critical.specs.declared.types.StabilityOutcome.{StabilityOutcome}
-use Rattle.solver_critical.specs.declared.types.StabilityOutcome.TheVariants as Stable
+use Rattle.solver.specs.Answer.{Progress}
+use Rattle.std.specs.declared.ops.ControlFlow.TheVariants.{Break, Continue}
 use Rattle.solver_critical.specs.CriticalPoint.{critical_answer, tested6, converged, solved, newton_step, after_solve, after_conditions}
 use Rattle.solver_critical.specs.Spinodal.{spinodal_answer, stability_step, after_stability}
 use Rattle.solver_critical.specs.Rounds.{both_finite, finite6, stepped_round, solved_round, critical_round, stability_round}
@@ -34,15 +32,15 @@ unfolding finite6
 tests6 y s = tests2_more y.l y.c2 _ _ _ (tests2_more y.dl_d0 y.dl_d1 _ _ _ (tests2 y.dc2_d0 y.dc2_d1 s))
 
 -- ---- a round of a critical point search
-unfoldable pub led : CriticalOutcome → (Point → Search) → Search
-led (End a) again = done a
-led (Next p) again = again p
+unfoldable pub led : Progress Point → (Point → Search) → Search
+led (Break a) again = done a
+led (Continue p) again = again p
 
 module _ (maxdensity : Float) (again : Point → Search) where
-  abbrev leads : CriticalOutcome → Search
+  abbrev leads : Progress Point → Search
   leads o = settled (led o again)
 
-  cond_led : (b : Bool) (o : CriticalOutcome) → cond b (leads o) (refuse NotFinite) ≡ leads (cond b o (End (Refused NotFinite)))
+  cond_led : (b : Bool) (o : Progress Point) → cond b (leads o) (refuse NotFinite) ≡ leads (cond b o (Break (Err NotFinite)))
   unfolding led settle
   cond_led true o = refl
   cond_led false o = refl
@@ -52,9 +50,9 @@ module _ (maxdensity : Float) (again : Point → Search) where
   stepped_led e p =
       tests2 p.t p.rho _
       ∙ ap (λ (s : Search). cond (both_finite p.t p.rho) s (refuse NotFinite)) (by e)
-      ∙ cond_led (both_finite p.t p.rho) (cond e (End (critical_answer p)) (Next p))
+      ∙ cond_led (both_finite p.t p.rho) (cond e (Break (critical_answer p)) (Continue p))
     where
-      by : (e : Bool) → settled (cond e (done (critical_answer p)) (again p)) ≡ leads (cond e (End (critical_answer p)) (Next p))
+      by : (e : Bool) → settled (cond e (done (critical_answer p)) (again p)) ≡ leads (cond e (Break (critical_answer p)) (Continue p))
       by true = refl
       by false = refl
 
@@ -74,9 +72,9 @@ module _ (maxdensity : Float) (again : Point → Search) where
   round_bind f p y = settled_bind (after_conditions maxdensity p y again) (led (critical_round maxdensity p y) again) f (round_led p y)
 
 -- ---- a round of a spinodal search
-unfoldable pub stability_led : StabilityOutcome → (Float → Search) → Search
-stability_led (Stable.End a) again = done a
-stability_led (Stable.Next ρ) again = again ρ
+unfoldable pub stability_led : Progress Float → (Float → Search) → Search
+stability_led (Break a) again = done a
+stability_led (Continue ρ) again = again ρ
 
 module _ (maxdensity ρ : Float) (y : Stability) (again : Float → Search) where
   abbrev ρ' : Float
@@ -90,7 +88,7 @@ module _ (maxdensity ρ : Float) (y : Stability) (again : Float → Search) wher
       ∙ by (both_finite y.f y.df) (finite_of ρ') (lt (abs_of y.f) d1e_8)
     where
       by : (a b e : Bool) → cond a (cond b (settled (cond e (done (spinodal_answer ρ')) (again ρ'))) (refuse NotFinite)) (refuse NotFinite)
-          ≡ settled (stability_led (cond a (cond b (cond e (Stable.End (spinodal_answer ρ')) (Stable.Next ρ')) (Stable.End (Refused NotFinite))) (Stable.End (Refused NotFinite))) again)
+          ≡ settled (stability_led (cond a (cond b (cond e (Break (spinodal_answer ρ')) (Continue ρ')) (Break (Err NotFinite))) (Break (Err NotFinite))) again)
       by true true true = refl
       by true true false = refl
       by true false e = refl

@@ -13,12 +13,12 @@ use Rattle.linear.specs.declared.types.Solved.TheVariants.{Delta, ZeroPivot}
 use Rattle.solver.specs.Decimals.{d1e_8}
 use Rattle.solver.specs.declared.types.DensityInitialization.{DensityInitialization}
 use Rattle.solver.specs.declared.types.Values.{Values}
-use Rattle.solver.specs.declared.types.Answer.{Answer}
-use Rattle.solver.specs.declared.types.Answer.TheVariants.{Found, Refused}
+use Rattle.solver.specs.Answer.{Answer}
+use Rattle.std.specs.Prelude.{Ok, Err}
 use Rattle.solver.specs.Search.{Search, Within}
 use Rattle.solver.proofs.Spans.{asked, within_more, within_bind, within_then, within_tested, within_cond}
-use Rattle.solver_critical.specs.declared.types.Start.{Start}
-use Rattle.solver_critical.specs.declared.types.Start.TheVariants.{None, Given}
+use Rattle.std.specs.declared.option.Option.{Option}
+use Rattle.std.specs.declared.option.Option.TheVariants.{None, Some}
 use Rattle.solver_critical.specs.declared.types.Point.{Point}
 use Rattle.solver_critical.specs.CriticalPoint.{tested6, converged, solved, after_solve, after_conditions, or_else, trial_temperatures, start_density, hkm_from, critical_point_hkm, trials, from_temperature, critical_point}
 use Rattle.solver_critical.specs.Spinodal.{after_stability, spinodal_from, calculate_spinodal, after_liquid, after_vapor, after_critical, spinodal}
@@ -31,8 +31,8 @@ within_tested6 y w =
 
 pub within_else : {n : ℕ} {s : Search} (a : Answer) → Within n s → Within n (or_else s a)
 unfolding or_else
-within_else (Found v) w = Within.ended
-within_else (Refused r) w = w
+within_else (Ok v) w = Within.ended
+within_else (Err r) w = w
 
 module _ (maxdensity : Float) where
   within_solve : {n : ℕ} (p : Point) (y : Criticality) (s : Solved) (again : Point → Search) → ((p : Point) → Within n (again p)) → Within n (after_solve maxdensity p y s again)
@@ -60,10 +60,10 @@ module _ (maxdensity : Float) where
   unfolding trial_temperatures
   trials_150 ρ = within_trials ρ trial_temperatures
 
-  pub critical_150 : (temperature density : Start) → Within 150 (critical_point maxdensity temperature density)
+  pub critical_150 : (temperature density : Option Float) → Within 150 (critical_point maxdensity temperature density)
   unfolding critical_point from_temperature
   critical_150 None density = trials_150 (start_density maxdensity density)
-  critical_150 (Given t) density = within_more (hkm_50 t _) (omega arith)
+  critical_150 (Some t) density = within_more (hkm_50 t _) (omega arith)
 
 -- ---- kind 6
 module _ (maxdensity t : Float) where

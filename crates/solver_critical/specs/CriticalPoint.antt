@@ -9,16 +9,16 @@ use Rattle.linear.specs.declared.types.Solved.TheVariants.{Delta, ZeroPivot}
 use Rattle.linear.specs.Linear.{solve2, norm_of}
 use Rattle.solver.specs.Decimals.{d0·25, d0·03, d0·3, d1e_4, d1e_8, d300, d500, d700}
 use Rattle.solver.specs.declared.types.Refusal.TheVariants.{NotConverged, IterationFailed}
-use Rattle.solver.specs.declared.types.Answer.{Answer}
-use Rattle.solver.specs.declared.types.Answer.TheVariants.{Found, Refused}
+use Rattle.solver.specs.Answer.{Answer}
+use Rattle.std.specs.Prelude.{Ok, Err}
 use Rattle.solver.specs.Search.{Search, done, ask, refuse, tested, bind, criticality}
-use Rattle.solver_critical.specs.declared.types.Start.{Start}
-use Rattle.solver_critical.specs.declared.types.Start.TheVariants.{None, Given}
+use Rattle.std.specs.declared.option.Option.{Option}
+use Rattle.std.specs.declared.option.Option.TheVariants.{None, Some}
 use Rattle.solver_critical.specs.declared.types.Point.{Point}
 
 -- the temperature and the density that kinds 5 and 7 hand out
 unfoldable pub critical_answer : Point → Answer
-critical_answer p = Found (record { first = p.t; second = p.rho; third = f0 })
+critical_answer p = Ok (record { first = p.t; second = p.rho; third = f0 })
 
 -- ---- the Newton step
 
@@ -67,8 +67,8 @@ after_conditions maxdensity p y again = tested6 y (after_solve maxdensity p y (s
 
 -- a trial that failed leads to another search
 unfoldable pub or_else : Search → Answer → Search
-or_else other (Found v) = done (Found v)
-or_else other (Refused r) = other
+or_else other (Ok v) = done (Ok v)
+or_else other (Err r) = other
 
 unfoldable pub trial_temperatures : List Float
 trial_temperatures = d300 ∷ d700 ∷ d500 ∷ []
@@ -77,9 +77,9 @@ trial_temperatures = d300 ∷ d700 ∷ d500 ∷ []
 unfoldable pub trial_temperature : ℕ → Float
 trial_temperature trial = get_or trial_temperatures trial f0
 
-unfoldable pub start_density : (maxdensity : Float) → Start → Float
+unfoldable pub start_density : (maxdensity : Float) → Option Float → Float
 start_density maxdensity None = d0·3 ⊗ maxdensity
-start_density maxdensity (Given ρ) = ρ
+start_density maxdensity (Some ρ) = ρ
 
 module _ (maxdensity : Float) where
   -- with n rounds left, at p
@@ -96,10 +96,10 @@ module _ (maxdensity : Float) where
   trials ρ (t ∷ ts) = bind (critical_point_hkm t ρ) (or_else (trials ρ ts))
 
   -- "with a given temperature its refusal is final"
-  unfoldable pub from_temperature : Start → (ρ : Float) → Search
+  unfoldable pub from_temperature : Option Float → (ρ : Float) → Search
   from_temperature None ρ = trials ρ trial_temperatures
-  from_temperature (Given t) ρ = critical_point_hkm t ρ
+  from_temperature (Some t) ρ = critical_point_hkm t ρ
 
   -- kinds 5 and 7
-  unfoldable pub critical_point : (temperature density : Start) → Search
+  unfoldable pub critical_point : (temperature density : Option Float) → Search
   critical_point temperature density = from_temperature temperature (start_density maxdensity density)

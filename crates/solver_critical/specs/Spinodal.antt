@@ -9,19 +9,19 @@ use Rattle.solver.specs.declared.types.DensityInitialization.{DensityInitializat
 use Rattle.solver.specs.declared.types.DensityInitialization.TheVariants.{Vapor, Liquid, InitialDensity}
 use Rattle.solver.specs.declared.types.Values.{Values}
 use Rattle.solver.specs.declared.types.Refusal.TheVariants.{Supercritical}
-use Rattle.solver.specs.declared.types.Answer.{Answer}
-use Rattle.solver.specs.declared.types.Answer.TheVariants.{Found}
+use Rattle.solver.specs.Answer.{Answer}
+use Rattle.std.specs.Prelude.{Ok, Err}
 use Rattle.solver.specs.Search.{Search, done, ask, refuse, tested, and_then, stability}
-use Rattle.solver_critical.specs.declared.types.Start.TheVariants.{None}
+use Rattle.std.specs.declared.option.Option.TheVariants.{None, Some}
 use Rattle.solver_critical.specs.CriticalPoint.{floored, critical_point}
 
 -- one spinodal's density
 unfoldable pub spinodal_answer : (ρ : Float) → Answer
-spinodal_answer ρ = Found (record { first = ρ; second = f0; third = f0 })
+spinodal_answer ρ = Ok (record { first = ρ; second = f0; third = f0 })
 
 -- the two densities that kind 6 hands out
 unfoldable pub both_answer : (vapor liquid : Float) → Answer
-both_answer vapor liquid = Found (record { first = vapor; second = liquid; third = f0 })
+both_answer vapor liquid = Ok (record { first = vapor; second = liquid; third = f0 })
 
 unfoldable pub spinodal_start : (maxdensity : Float) → DensityInitialization → Float
 spinodal_start maxdensity Vapor = d1e_5 ⊗ maxdensity

@@ -7,11 +7,12 @@ ghost use Rattle.solver.specs.Evaluated.{evaluated};
 ghost use Rattle.solver_critical.specs.CriticalPoint.{critical_answer, floored, reduced, reduced_step, newton_step, solved as solved_of, converged, trial_temperatures, trial_temperature, start_density, critical_point_hkm, trials, critical_point};
 ghost use Rattle.solver_critical.specs.Rounds.{both_finite, finite6, stepped_round, critical_round};
 
-use crate::types::{CriticalOutcome, Point, Start};
+use crate::types::Point;
 use eos::Blend;
 use evaluations::Criticality;
 use linear::Solved;
-use solver::{Answer, Ran, Refusal, Values};
+use solver::{Answer, Progress, Ran, Refusal, Values};
+use std::ops::ControlFlow;
 
 const TRIAL_TEMPERATURES: [f64; 3] = [300.0, 700.0, 500.0];
 
@@ -24,7 +25,7 @@ fn critical_answer(p: Point) -> Answer
         second: p.rho,
         third: 0.0,
     };
-    Answer::Found(found)
+    Ok(found)
 }
 
 // the floor of a density after a step
@@ -103,24 +104,24 @@ pub fn solved(y: Criticality) -> Solved
 }
 
 // where a step that leads to p goes on
-fn stepped_round(ended: bool, p: Point) -> CriticalOutcome
+fn stepped_round(ended: bool, p: Point) -> Progress<Point>
     ensures { result ≡ stepped_round ended p }
 {
     if !both_finite(p.t, p.rho) {
-        return CriticalOutcome::End(Answer::Refused(Refusal::NotFinite));
+        return ControlFlow::Break(Err(Refusal::NotFinite));
     }
     if ended {
-        return CriticalOutcome::End(critical_answer(p));
+        return ControlFlow::Break(critical_answer(p));
     }
-    CriticalOutcome::Next(p)
+    ControlFlow::Continue(p)
 }
 
 // a round at p, with its tests for 27
-pub fn critical_round(maxdensity: f64, p: Point, y: Criticality) -> CriticalOutcome
+pub fn critical_round(maxdensity: f64, p: Point, y: Criticality) -> Progress<Point>
     ensures { result ≡ critical_round maxdensity p y }
 {
     if !all_finite(y) {
-        return CriticalOutcome::End(Answer::Refused(Refusal::NotFinite));
+        return ControlFlow::Break(Err(Refusal::NotFinite));
     }
     let delta = solved(y);
     match delta {
@@ -130,16 +131,16 @@ pub fn critical_round(maxdensity: f64, p: Point, y: Criticality) -> CriticalOutc
                 newton_step(maxdensity, p, Point { t, rho }),
             )
         }
-        Solved::ZeroPivot => CriticalOutcome::End(Answer::Refused(Refusal::IterationFailed)),
+        Solved::ZeroPivot => ControlFlow::Break(Err(Refusal::IterationFailed)),
     }
 }
 
-pub fn start_density(maxdensity: f64, density: Start) -> f64
+pub fn start_density(maxdensity: f64, density: Option<f64>) -> f64
     ensures { result ≡ start_density maxdensity density }
 {
     match density {
-        Start::None => 0.3 * maxdensity,
-        Start::Given(rho) => rho,
+        None => 0.3 * maxdensity,
+        Some(rho) => rho,
     }
 }
 
@@ -165,19 +166,19 @@ fn critical_point_hkm(blend: Blend, maxdensity: f64, t: f64, rho: f64) -> Ran
         let y = evaluations::criticality_conditions(blend, p.t, p.rho);
         let outcome = critical_round(maxdensity, p, y);
         match outcome {
-            CriticalOutcome::End(answer) => {
+            ControlFlow::Break(answer) => {
                 return Ran {
                     answer,
                     evaluations,
                 };
             }
-            CriticalOutcome::Next(next) => {
+            ControlFlow::Continue(next) => {
                 p = next;
             }
         }
     }
     Ran {
-        answer: Answer::Refused(Refusal::NotConverged),
+        answer: Err(Refusal::NotConverged),
         evaluations,
     }
 }
@@ -186,7 +187,7 @@ fn critical_point_hkm(blend: Blend, maxdensity: f64, t: f64, rho: f64) -> Ran
 fn by_trials(blend: Blend, maxdensity: f64, rho: f64) -> Ran
     ensures { result ≡ run finite_of (evaluated blend) 0 (trials maxdensity rho trial_temperatures) }
 {
-    let mut answer = Answer::Refused(Refusal::NotConverged);
+    let mut answer = Err(Refusal::NotConverged);
     let mut evaluations: u64 = 0;
     let mut trial: u64 = 0;
     'trials: while trial < 3 {
@@ -202,16 +203,16 @@ fn by_trials(blend: Blend, maxdensity: f64, rho: f64) -> Ran
             let y = evaluations::criticality_conditions(blend, p.t, p.rho);
             let outcome = critical_round(maxdensity, p, y);
             match outcome {
-                CriticalOutcome::End(end) => match end {
-                    Answer::Found(found) => {
-                        answer = Answer::Found(found);
+                ControlFlow::Break(end) => match end {
+                    Ok(found) => {
+                        answer = Ok(found);
                         break 'trials;
                     }
-                    Answer::Refused(_) => {
+                    Err(_) => {
                         continue 'trials;
                     }
                 },
-                CriticalOutcome::Next(next) => {
+                ControlFlow::Continue(next) => {
                     p = next;
                 }
             }
@@ -223,18 +224,23 @@ fn by_trials(blend: Blend, maxdensity: f64, rho: f64) -> Ran
     }
 }
 
-pub fn critical_search(blend: Blend, maxdensity: f64, temperature: Start, density: Start) -> Ran
+pub fn critical_search(
+    blend: Blend,
+    maxdensity: f64,
+    temperature: Option<f64>,
+    density: Option<f64>,
+) -> Ran
     ensures { result ≡ run finite_of (evaluated blend) 0 (critical_point maxdensity temperature density) }
 {
     let rho = start_density(maxdensity, density);
     match temperature {
-        Start::None => by_trials(blend, maxdensity, rho),
-        Start::Given(t) => critical_point_hkm(blend, maxdensity, t, rho),
+        None => by_trials(blend, maxdensity, rho),
+        Some(t) => critical_point_hkm(blend, maxdensity, t, rho),
     }
 }
 
 // Kinds 5 and 7. Hands out temperature and density.
-pub fn critical_point(blend: Blend, temperature: Start, density: Start) -> Ran
+pub fn critical_point(blend: Blend, temperature: Option<f64>, density: Option<f64>) -> Ran
     ensures { result ≡ run finite_of (evaluated blend) 0 (critical_point (max_density blend) temperature density) }
 {
     critical_search(blend, eos::compute_max_density(blend), temperature, density)

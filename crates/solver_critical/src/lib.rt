@@ -10,4 +10,4 @@ pub use crate::critical::{
     start_density, trial_temperature,
 };
 pub use crate::spinodals::{both_answer, liquid_start, spinodal, spinodal_start, stability_round};
-pub use crate::types::{CriticalOutcome, Point, StabilityOutcome, Start};
+pub use crate::types::Point;

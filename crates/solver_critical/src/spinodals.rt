@@ -8,10 +8,10 @@ ghost use Rattle.solver_critical.specs.Spinodal.{spinodal_answer, both_answer, s
 ghost use Rattle.solver_critical.specs.Rounds.{stability_round};
 
 use crate::critical::{both_finite, critical_search, floor};
-use crate::types::{StabilityOutcome, Start};
 use eos::Blend;
 use evaluations::Stability;
-use solver::{Answer, DensityInitialization, Ran, Refusal, Values};
+use solver::{Answer, DensityInitialization, Progress, Ran, Refusal, Values};
+use std::ops::ControlFlow;
 
 // one spinodal's density as an answer
 fn spinodal_answer(rho: f64) -> Answer
@@ -22,7 +22,7 @@ fn spinodal_answer(rho: f64) -> Answer
         second: 0.0,
         third: 0.0,
     };
-    Answer::Found(found)
+    Ok(found)
 }
 
 // both spinodals' densities as an answer
@@ -34,7 +34,7 @@ pub fn both_answer(vapor: f64, liquid: f64) -> Answer
         second: liquid,
         third: 0.0,
     };
-    Answer::Found(found)
+    Ok(found)
 }
 
 pub fn spinodal_start(maxdensity: f64, initial: DensityInitialization) -> f64
@@ -74,21 +74,21 @@ fn stability_step(maxdensity: f64, rho: f64, y: Stability) -> f64
 }
 
 // a round at rho, with its tests for 27
-pub fn stability_round(maxdensity: f64, rho: f64, y: Stability) -> StabilityOutcome
+pub fn stability_round(maxdensity: f64, rho: f64, y: Stability) -> Progress<f64>
     ensures { result ≡ stability_round maxdensity rho y }
 {
     let f = y.f;
     if !both_finite(f, y.df) {
-        return StabilityOutcome::End(Answer::Refused(Refusal::NotFinite));
+        return ControlFlow::Break(Err(Refusal::NotFinite));
     }
     let next = stability_step(maxdensity, rho, y);
     if !float::is_finite(next) {
-        return StabilityOutcome::End(Answer::Refused(Refusal::NotFinite));
+        return ControlFlow::Break(Err(Refusal::NotFinite));
     }
     if float::abs(f) < 1e-8 {
-        return StabilityOutcome::End(spinodal_answer(next));
+        return ControlFlow::Break(spinodal_answer(next));
     }
-    StabilityOutcome::Next(next)
+    ControlFlow::Continue(next)
 }
 
 fn calculate_spinodal(
@@ -108,19 +108,19 @@ fn calculate_spinodal(
         let y = evaluations::stability_condition(blend, temperature, rho);
         let outcome = stability_round(maxdensity, rho, y);
         match outcome {
-            StabilityOutcome::End(answer) => {
+            ControlFlow::Break(answer) => {
                 return Ran {
                     answer,
                     evaluations,
                 };
             }
-            StabilityOutcome::Next(next) => {
+            ControlFlow::Continue(next) => {
                 rho = next;
             }
         }
     }
     Ran {
-        answer: Answer::Refused(Refusal::Supercritical),
+        answer: Err(Refusal::Supercritical),
         evaluations,
     }
 }
@@ -139,12 +139,12 @@ fn after_vapor(blend: Blend, maxdensity: f64, temperature: f64, critical: f64, v
     let evaluations = s.evaluations;
     let answer = s.answer;
     match answer {
-        Answer::Found(liquid) => Ran {
+        Ok(liquid) => Ran {
             answer: both_answer(vapor.first, liquid.first),
             evaluations,
         },
-        Answer::Refused(refusal) => Ran {
-            answer: Answer::Refused(refusal),
+        Err(refusal) => Ran {
+            answer: Err(refusal),
             evaluations,
         },
     }
@@ -158,7 +158,7 @@ fn after_critical(blend: Blend, maxdensity: f64, temperature: f64, critical: Val
     let evaluations = s.evaluations;
     let answer = s.answer;
     match answer {
-        Answer::Found(vapor) => {
+        Ok(vapor) => {
             let l = after_vapor(blend, maxdensity, temperature, critical.second, vapor);
             let after = l.answer;
             Ran {
@@ -166,8 +166,8 @@ fn after_critical(blend: Blend, maxdensity: f64, temperature: f64, critical: Val
                 evaluations: evaluations + l.evaluations,
             }
         }
-        Answer::Refused(refusal) => Ran {
-            answer: Answer::Refused(refusal),
+        Err(refusal) => Ran {
+            answer: Err(refusal),
             evaluations,
         },
     }
@@ -176,11 +176,11 @@ fn after_critical(blend: Blend, maxdensity: f64, temperature: f64, critical: Val
 fn spinodal_search(blend: Blend, maxdensity: f64, temperature: f64) -> Ran
     ensures { result ≡ run finite_of (evaluated blend) 0 (spinodal_tree maxdensity temperature) }
 {
-    let s = critical_search(blend, maxdensity, Start::None, Start::None);
+    let s = critical_search(blend, maxdensity, None, None);
     let evaluations = s.evaluations;
     let answer = s.answer;
     match answer {
-        Answer::Found(critical) => {
+        Ok(critical) => {
             let both = after_critical(blend, maxdensity, temperature, critical);
             let after = both.answer;
             Ran {
@@ -188,8 +188,8 @@ fn spinodal_search(blend: Blend, maxdensity: f64, temperature: f64) -> Ran
                 evaluations: evaluations + both.evaluations,
             }
         }
-        Answer::Refused(refusal) => Ran {
-            answer: Answer::Refused(refusal),
+        Err(refusal) => Ran {
+            answer: Err(refusal),
             evaluations,
         },
     }

@@ -1,4 +1,5 @@
 -- Kinds 5 and 7: a spot's evaluation is the one that the search left there makes. Assumes nothing.
+use Rattle.std.specs.declared.option.Option.TheVariants.{None, Some}
 use mathlib.Core.Path.{◌≡◌, refl, sym, ap, ◌∙◌}
 use Prim.Native.Nat.{ℕ, zero, suc, ◌≤◌}
 use native.Mathlib.Omega.{arith}
@@ -6,29 +7,28 @@ use borrow.Author.Tests.{le-ltb}
 use lib.ListN.{drop, drop_of_length-le}
 use lib.Ieee.{Float}
 use Rattle.float.specs.Sign.{finite_of}
-use Rattle.solver.specs.declared.types.Answer.{Answer}
-use Rattle.solver.specs.declared.types.Answer.TheVariants.{Found, Refused}
+use Rattle.solver.specs.Answer.{Answer}
+use Rattle.std.specs.Prelude.{Ok, Err}
 use Rattle.solver.specs.Search.{Evaluator, Search, bind, settle, next_of, criticality}
 use Rattle.solver.proofs.Steps.{moved, next_bind, settled}
-use Rattle.solver_critical.specs.declared.types.Start.{Start}
-use Rattle.solver_critical.specs.declared.types.CriticalOutcome.{CriticalOutcome}
-use Rattle.solver_critical.specs.declared.types.CriticalOutcome.TheVariants.{End, Next}
+use Rattle.std.specs.declared.option.Option.{Option}
+use Rattle.solver.specs.Answer.{Progress}
+use Rattle.solver_critical.specs.declared.types.Point.{Point}
+use Rattle.std.specs.declared.ops.ControlFlow.TheVariants.{Break, Continue}
 use Rattle.solver_critical.specs.CriticalPoint.{or_else, trial_temperatures, trial_temperature, start_density, hkm_from, critical_point_hkm, trials, from_temperature, critical_point}
 use Rattle.solver_critical.proofs.Settles.{led, round_led}
 use Rattle.solver_critical_step.specs.declared.types.HkmSpot.{HkmSpot}
-use Rattle.solver_critical_step.specs.declared.types.HkmPlace.{HkmPlace}
-use Rattle.solver_critical_step.specs.declared.types.HkmPlace.TheVariants as Hkm
 use Rattle.solver_critical_step.specs.declared.types.CriticalSpot.{CriticalSpot}
 use Rattle.solver_critical_step.specs.declared.types.CriticalSpot.TheVariants.{Given, Trial}
 use Rattle.solver_critical_step.specs.CriticalStep.{hkm_on, hkm_start, resume_hkm, hkm_left, hkm_next, critical_at, given_on, trial_at, trial_on, critical_begin, resume_critical, critical_left, critical_next}
 
 module _ (maxdensity : Float) where
   -- ---- critical_point_hkm
-  hkm_on_lem : (n : ℕ) (o : CriticalOutcome) → hkm_left maxdensity (hkm_on n o) ≡ settled (led o (hkm_from maxdensity n))
+  hkm_on_lem : (n : ℕ) (o : Progress Point) → hkm_left maxdensity (hkm_on n o) ≡ settled (led o (hkm_from maxdensity n))
   unfolding hkm_left resume_hkm hkm_on settle led hkm_from
-  hkm_on_lem n (End a) = refl
-  hkm_on_lem zero (Next p) = refl
-  hkm_on_lem (suc n) (Next p) = refl
+  hkm_on_lem n (Break a) = refl
+  hkm_on_lem zero (Continue p) = refl
+  hkm_on_lem (suc n) (Continue p) = refl
 
   hkm_law : (ev : Evaluator) (s : HkmSpot) (n : ℕ) (d : Float) → next_of finite_of ev (resume_hkm maxdensity s) n d ≡ moved n s.p.rho (hkm_left maxdensity (hkm_next maxdensity ev s))
   unfolding next_of resume_hkm hkm_from hkm_next
@@ -53,16 +53,16 @@ module _ (maxdensity : Float) where
     trial_at_lem (suc (suc zero)) = refl
     trial_at_lem (suc (suc (suc i))) = let h : 3 ≤ suc (suc (suc i)) = omega arith in rw (le-ltb (suc (suc (suc i))) 3 h, drop_of_length-le trial_temperatures h)
 
-    trial_on_lem : (i : ℕ) (x : HkmPlace) → critical_left maxdensity ρ (trial_on ρ i x) ≡ settled (bind (hkm_left maxdensity x) (or_else (from (suc i))))
+    trial_on_lem : (i : ℕ) (x : Progress HkmSpot) → critical_left maxdensity ρ (trial_on ρ i x) ≡ settled (bind (hkm_left maxdensity x) (or_else (from (suc i))))
     unfolding critical_left resume_critical trial_on hkm_left or_else bind settle
-    trial_on_lem i (Hkm.Ended (Found v)) = refl
-    trial_on_lem i (Hkm.Ended (Refused r)) = trial_at_lem (suc i)
-    trial_on_lem i (Hkm.At s) = sym (hkm_asks s _)
+    trial_on_lem i (Break (Ok v)) = refl
+    trial_on_lem i (Break (Err r)) = trial_at_lem (suc i)
+    trial_on_lem i (Continue s) = sym (hkm_asks s _)
 
-    given_on_lem : (x : HkmPlace) → critical_left maxdensity ρ (given_on x) ≡ hkm_left maxdensity x
+    given_on_lem : (x : Progress HkmSpot) → critical_left maxdensity ρ (given_on x) ≡ hkm_left maxdensity x
     unfolding critical_left resume_critical given_on hkm_left
-    given_on_lem (Hkm.Ended a) = refl
-    given_on_lem (Hkm.At s) = refl
+    given_on_lem (Break a) = refl
+    given_on_lem (Continue s) = refl
 
     pub critical_law : (ev : Evaluator) (s : CriticalSpot) (n : ℕ) (d : Float)
         → next_of finite_of ev (resume_critical maxdensity ρ s) n d ≡ moved n (critical_at s) (critical_left maxdensity ρ (critical_next maxdensity ρ ev s))
@@ -72,17 +72,17 @@ module _ (maxdensity : Float) where
         next_bind finite_of ev (resume_hkm maxdensity s) (or_else (from (suc i))) n d _ s.p.rho (hkm_law ev s n d)
         ∙ ap (moved n s.p.rho) (sym (trial_on_lem i _))
 
-    from_temperature_lem : (temperature : Start) → critical_left maxdensity ρ (critical_begin ρ temperature) ≡ settled (from_temperature maxdensity temperature ρ)
+    from_temperature_lem : (temperature : Option Float) → critical_left maxdensity ρ (critical_begin ρ temperature) ≡ settled (from_temperature maxdensity temperature ρ)
     unfolding critical_begin from_temperature critical_left resume_critical resume_hkm hkm_start critical_point_hkm hkm_from settle
-    from_temperature_lem Start.None = trial_at_lem 0
-    from_temperature_lem (Start.Given t) = refl
+    from_temperature_lem None = trial_at_lem 0
+    from_temperature_lem (Some t) = refl
 
     pub critical_asks : (s : CriticalSpot) (f : Answer → Search) → settled (bind (resume_critical maxdensity ρ s) f) ≡ bind (resume_critical maxdensity ρ s) f
     unfolding settle bind resume_critical resume_hkm hkm_from
     critical_asks (Given s) f = refl
     critical_asks (Trial i s) f = refl
 
-  pub critical_begins : (temperature density : Start)
+  pub critical_begins : (temperature density : Option Float)
       → critical_left maxdensity (start_density maxdensity density) (critical_begin (start_density maxdensity density) temperature) ≡ settled (critical_point maxdensity temperature density)
   unfolding critical_point
   critical_begins temperature density = from_temperature_lem (start_density maxdensity density) temperature

@@ -3,20 +3,17 @@ use mathlib.Core.Path.{◌≡◌, refl, sym, ap, ◌∙◌}
 use Prim.Native.Nat.{ℕ, zero, suc}
 use lib.Ieee.{Float}
 use Rattle.float.specs.Sign.{finite_of}
-use Rattle.solver.specs.declared.types.Answer.TheVariants.{Found, Refused}
+use Rattle.std.specs.Prelude.{Ok, Err}
 use Rattle.solver.specs.Search.{Evaluator, Search, bind, on_found, and_then, settle, next_of, stability}
 use Rattle.solver.proofs.Steps.{settle_bind, moved, next_bind, settled}
-use Rattle.solver_critical.specs.declared.types.Start.TheVariants.{None}
-use Rattle.solver_critical.specs.declared.types.StabilityOutcome.{StabilityOutcome}
-use Rattle.solver_critical.specs.declared.types.StabilityOutcome.TheVariants.{End, Next}
+use Rattle.std.specs.declared.option.Option.TheVariants.{None, Some}
+use Rattle.solver.specs.Answer.{Progress}
+use Rattle.std.specs.declared.ops.ControlFlow.TheVariants.{Break, Continue}
 use Rattle.solver_critical.specs.CriticalPoint.{start_density, critical_point}
 use Rattle.solver_critical.specs.Spinodal.{spinodal_start, spinodal_from, calculate_spinodal, after_liquid, after_vapor, after_critical, spinodal}
 use Rattle.solver_critical.proofs.Settles.{stability_led, stability_led_lem}
-use Rattle.solver_critical_step.specs.declared.types.CriticalPlace.{CriticalPlace}
-use Rattle.solver_critical_step.specs.declared.types.CriticalPlace.TheVariants as Critical
+use Rattle.solver_critical_step.specs.declared.types.CriticalSpot.{CriticalSpot}
 use Rattle.solver_critical_step.specs.declared.types.StabilitySpot.{StabilitySpot}
-use Rattle.solver_critical_step.specs.declared.types.StabilityPlace.{StabilityPlace}
-use Rattle.solver_critical_step.specs.declared.types.StabilityPlace.TheVariants as Stability
 use Rattle.solver_critical_step.specs.declared.types.SpinodalsSpot.{SpinodalsSpot}
 use Rattle.solver_critical_step.specs.declared.types.SpinodalsSpot.TheVariants.{CriticalSearch, VaporSpinodal, LiquidSpinodal}
 use Rattle.solver_critical_step.specs.CriticalStep.{critical_at, critical_begin, resume_critical, critical_left}
@@ -25,11 +22,11 @@ use Rattle.solver_critical_step.proofs.CriticalLaw.{critical_law, critical_asks,
 
 module _ (maxdensity t : Float) where
   -- ---- calculate_spinodal
-  stability_on_lem : (n : ℕ) (o : StabilityOutcome) → stability_left maxdensity t (stability_on n o) ≡ settled (stability_led o (spinodal_from maxdensity t n))
+  stability_on_lem : (n : ℕ) (o : Progress Float) → stability_left maxdensity t (stability_on n o) ≡ settled (stability_led o (spinodal_from maxdensity t n))
   unfolding stability_left resume_stability stability_on settle stability_led spinodal_from
-  stability_on_lem n (End a) = refl
-  stability_on_lem zero (Next ρ) = refl
-  stability_on_lem (suc n) (Next ρ) = refl
+  stability_on_lem n (Break a) = refl
+  stability_on_lem zero (Continue ρ) = refl
+  stability_on_lem (suc n) (Continue ρ) = refl
 
   stability_law : (ev : Evaluator) (s : StabilitySpot) (n : ℕ) (d : Float)
       → next_of finite_of ev (resume_stability maxdensity t s) n d ≡ moved n s.rho (stability_left maxdensity t (stability_next maxdensity t ev s))
@@ -38,26 +35,26 @@ module _ (maxdensity t : Float) where
       ap (moved n s.rho) (stability_led_lem maxdensity s.rho (ev (stability t s.rho)) (spinodal_from maxdensity t s.rounds) ∙ sym (stability_on_lem s.rounds _))
 
   -- ---- kind 6
-  liquid_on_lem : (vapor : Float) (x : StabilityPlace) → spinodals_left maxdensity t (liquid_on vapor x) ≡ settled (and_then (stability_left maxdensity t x) (after_liquid maxdensity t vapor))
+  liquid_on_lem : (vapor : Float) (x : Progress StabilitySpot) → spinodals_left maxdensity t (liquid_on vapor x) ≡ settled (and_then (stability_left maxdensity t x) (after_liquid maxdensity t vapor))
   unfolding spinodals_left resume_spinodals liquid_on stability_left resume_stability spinodal_from after_liquid bind on_found settle
-  liquid_on_lem vapor (Stability.Ended (Found l)) = refl
-  liquid_on_lem vapor (Stability.Ended (Refused r)) = refl
-  liquid_on_lem vapor (Stability.At s) = refl
+  liquid_on_lem vapor (Break (Ok l)) = refl
+  liquid_on_lem vapor (Break (Err r)) = refl
+  liquid_on_lem vapor (Continue s) = refl
 
-  vapor_on_lem : (critical : Float) (x : StabilityPlace) → spinodals_left maxdensity t (vapor_on critical x) ≡ settled (and_then (stability_left maxdensity t x) (after_vapor maxdensity t critical))
+  vapor_on_lem : (critical : Float) (x : Progress StabilitySpot) → spinodals_left maxdensity t (vapor_on critical x) ≡ settled (and_then (stability_left maxdensity t x) (after_vapor maxdensity t critical))
   unfolding spinodals_left resume_spinodals vapor_on stability_left resume_stability stability_start calculate_spinodal spinodal_start spinodal_from after_vapor bind on_found settle
-  vapor_on_lem critical (Stability.Ended (Found v)) = refl
-  vapor_on_lem critical (Stability.Ended (Refused r)) = refl
-  vapor_on_lem critical (Stability.At s) = refl
+  vapor_on_lem critical (Break (Ok v)) = refl
+  vapor_on_lem critical (Break (Err r)) = refl
+  vapor_on_lem critical (Continue s) = refl
 
   abbrev ρ : Float
   ρ = start_density maxdensity None
 
-  critical_on_lem : (x : CriticalPlace) → spinodals_left maxdensity t (critical_on maxdensity x) ≡ settled (and_then (critical_left maxdensity ρ x) (after_critical maxdensity t))
+  critical_on_lem : (x : Progress CriticalSpot) → spinodals_left maxdensity t (critical_on maxdensity x) ≡ settled (and_then (critical_left maxdensity ρ x) (after_critical maxdensity t))
   unfolding spinodals_left resume_spinodals critical_on critical_left resume_stability stability_start calculate_spinodal spinodal_from after_critical bind on_found settle
-  critical_on_lem (Critical.Ended (Found c)) = refl
-  critical_on_lem (Critical.Ended (Refused r)) = refl
-  critical_on_lem (Critical.At s) = sym (critical_asks maxdensity ρ s _)
+  critical_on_lem (Break (Ok c)) = refl
+  critical_on_lem (Break (Err r)) = refl
+  critical_on_lem (Continue s) = sym (critical_asks maxdensity ρ s _)
 
   pub spinodals_law : (ev : Evaluator) (s : SpinodalsSpot) (n : ℕ) (d : Float)
       → next_of finite_of ev (resume_spinodals maxdensity t s) n d ≡ moved n (spinodals_at s) (spinodals_left maxdensity t (spinodals_next maxdensity t ev s))

@@ -1,28 +1,26 @@
 -- Kinds 5 and 7 one evaluation at a time: what is left at a spot, and where its evaluation leads. Definitions only.
+use Rattle.std.specs.declared.option.Option.TheVariants.{None, Some}
 use Rattle.std.specs.Prelude.{ℕ, zero, suc, cond, ltb, drop, length, Float}
 use Rattle.solver.specs.declared.types.Refusal.TheVariants.{NotConverged}
-use Rattle.solver.specs.declared.types.Answer.TheVariants.{Found, Refused}
+use Rattle.std.specs.Prelude.{Ok, Err}
 use Rattle.solver.specs.Search.{Evaluator, Search, done, bind, criticality}
-use Rattle.solver_critical.specs.declared.types.Start.{Start}
-use Rattle.solver_critical.specs.declared.types.CriticalOutcome.{CriticalOutcome}
-use Rattle.solver_critical.specs.declared.types.CriticalOutcome.TheVariants.{End, Next}
+use Rattle.std.specs.declared.option.Option.{Option}
+use Rattle.solver.specs.Answer.{Progress}
+use Rattle.solver_critical.specs.declared.types.Point.{Point}
+use Rattle.std.specs.declared.ops.ControlFlow.TheVariants.{Break, Continue}
 use Rattle.solver_critical.specs.CriticalPoint.{or_else, trial_temperatures, trial_temperature, hkm_from, trials}
 use Rattle.solver_critical.specs.Rounds.{critical_round}
 use Rattle.solver_critical_step.specs.declared.types.HkmSpot.{HkmSpot}
-use Rattle.solver_critical_step.specs.declared.types.HkmPlace.{HkmPlace}
-use Rattle.solver_critical_step.specs.declared.types.HkmPlace.TheVariants as Hkm
 use Rattle.solver_critical_step.specs.declared.types.CriticalSpot.{CriticalSpot}
 use Rattle.solver_critical_step.specs.declared.types.CriticalSpot.TheVariants.{Given, Trial}
-use Rattle.solver_critical_step.specs.declared.types.CriticalPlace.{CriticalPlace}
-use Rattle.solver_critical_step.specs.declared.types.CriticalPlace.TheVariants.{Ended, At}
 
 -- ---- critical_point_hkm
 
 -- with n rounds left, where a round leads
-unfoldable pub hkm_on : ℕ → CriticalOutcome → HkmPlace
-hkm_on n (End a) = Hkm.Ended a
-hkm_on zero (Next p) = Hkm.Ended (Refused NotConverged)
-hkm_on (suc n) (Next p) = Hkm.At (record { rounds = n; p = p })
+unfoldable pub hkm_on : ℕ → Progress Point → Progress HkmSpot
+hkm_on n (Break a) = Break a
+hkm_on zero (Continue p) = Break (Err NotConverged)
+hkm_on (suc n) (Continue p) = Continue (record { rounds = n; p = p })
 
 -- where a search begins
 unfoldable pub hkm_start : (t ρ : Float) → HkmSpot
@@ -33,12 +31,12 @@ module _ (maxdensity : Float) where
   unfoldable pub resume_hkm : HkmSpot → Search
   resume_hkm s = hkm_from maxdensity (suc s.rounds) s.p
 
-  unfoldable pub hkm_left : HkmPlace → Search
-  hkm_left (Hkm.Ended a) = done a
-  hkm_left (Hkm.At s) = resume_hkm s
+  unfoldable pub hkm_left : Progress HkmSpot → Search
+  hkm_left (Break a) = done a
+  hkm_left (Continue s) = resume_hkm s
 
   -- the one evaluation, and where it leads
-  unfoldable pub hkm_next : Evaluator → HkmSpot → HkmPlace
+  unfoldable pub hkm_next : Evaluator → HkmSpot → Progress HkmSpot
   hkm_next ev s = hkm_on s.rounds (critical_round maxdensity s.p (ev (criticality s.p.t s.p.rho)))
 
 -- ---- kinds 5 and 7
@@ -48,26 +46,26 @@ unfoldable pub critical_at : CriticalSpot → Float
 critical_at (Given s) = s.p.rho
 critical_at (Trial i s) = s.p.rho
 
-unfoldable pub given_on : HkmPlace → CriticalPlace
-given_on (Hkm.Ended a) = Ended a
-given_on (Hkm.At s) = At (Given s)
+unfoldable pub given_on : Progress HkmSpot → Progress CriticalSpot
+given_on (Break a) = Break a
+given_on (Continue s) = Continue (Given s)
 
 -- ρ is the density that each trial starts from
 module _ (ρ : Float) where
   -- the trial i begins, or there is none
-  unfoldable pub trial_at : ℕ → CriticalPlace
-  trial_at i = cond (ltb i (length trial_temperatures)) (At (Trial i (hkm_start (trial_temperature i) ρ))) (Ended (Refused NotConverged))
+  unfoldable pub trial_at : ℕ → Progress CriticalSpot
+  trial_at i = cond (ltb i (length trial_temperatures)) (Continue (Trial i (hkm_start (trial_temperature i) ρ))) (Break (Err NotConverged))
 
   -- where the trial i stands, or what it leads to
-  unfoldable pub trial_on : ℕ → HkmPlace → CriticalPlace
-  trial_on i (Hkm.Ended (Found v)) = Ended (Found v)
-  trial_on i (Hkm.Ended (Refused r)) = trial_at (suc i)
-  trial_on i (Hkm.At s) = At (Trial i s)
+  unfoldable pub trial_on : ℕ → Progress HkmSpot → Progress CriticalSpot
+  trial_on i (Break (Ok v)) = Break (Ok v)
+  trial_on i (Break (Err r)) = trial_at (suc i)
+  trial_on i (Continue s) = Continue (Trial i s)
 
   -- where a search begins
-  unfoldable pub critical_begin : (temperature : Start) → CriticalPlace
-  critical_begin Start.None = trial_at 0
-  critical_begin (Start.Given t) = At (Given (hkm_start t ρ))
+  unfoldable pub critical_begin : (temperature : Option Float) → Progress CriticalSpot
+  critical_begin None = trial_at 0
+  critical_begin (Some t) = Continue (Given (hkm_start t ρ))
 
 module _ (maxdensity ρ : Float) where
   -- the search that is left
@@ -75,11 +73,11 @@ module _ (maxdensity ρ : Float) where
   resume_critical (Given s) = resume_hkm maxdensity s
   resume_critical (Trial i s) = bind (resume_hkm maxdensity s) (or_else (trials maxdensity ρ (drop (suc i) trial_temperatures)))
 
-  unfoldable pub critical_left : CriticalPlace → Search
-  critical_left (Ended a) = done a
-  critical_left (At s) = resume_critical s
+  unfoldable pub critical_left : Progress CriticalSpot → Search
+  critical_left (Break a) = done a
+  critical_left (Continue s) = resume_critical s
 
   -- the one evaluation, and where it leads
-  unfoldable pub critical_next : Evaluator → CriticalSpot → CriticalPlace
+  unfoldable pub critical_next : Evaluator → CriticalSpot → Progress CriticalSpot
   critical_next ev (Given s) = given_on (hkm_next maxdensity ev s)
   critical_next ev (Trial i s) = trial_on ρ i (hkm_next maxdensity ev s)

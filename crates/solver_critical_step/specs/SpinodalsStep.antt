@@ -2,32 +2,27 @@
 use Rattle.std.specs.Prelude.{ℕ, zero, suc, Float}
 use Rattle.solver.specs.declared.types.DensityInitialization.TheVariants.{Vapor}
 use Rattle.solver.specs.declared.types.Refusal.TheVariants.{Supercritical}
-use Rattle.solver.specs.declared.types.Answer.TheVariants.{Found, Refused}
+use Rattle.std.specs.Prelude.{Ok, Err}
 use Rattle.solver.specs.Search.{Evaluator, Search, done, and_then, stability}
-use Rattle.solver_critical.specs.declared.types.Start.TheVariants.{None}
-use Rattle.solver_critical.specs.declared.types.StabilityOutcome.{StabilityOutcome}
-use Rattle.solver_critical.specs.declared.types.StabilityOutcome.TheVariants.{End, Next}
+use Rattle.std.specs.declared.option.Option.TheVariants.{None, Some}
+use Rattle.solver.specs.Answer.{Progress}
+use Rattle.std.specs.declared.ops.ControlFlow.TheVariants.{Break, Continue}
 use Rattle.solver_critical.specs.CriticalPoint.{start_density}
 use Rattle.solver_critical.specs.Spinodal.{both_answer, spinodal_start, liquid_start, spinodal_from, after_liquid, after_vapor, after_critical}
 use Rattle.solver_critical.specs.Rounds.{stability_round}
-use Rattle.solver_critical_step.specs.declared.types.CriticalPlace.{CriticalPlace}
-use Rattle.solver_critical_step.specs.declared.types.CriticalPlace.TheVariants as Critical
+use Rattle.solver_critical_step.specs.declared.types.CriticalSpot.{CriticalSpot}
 use Rattle.solver_critical_step.specs.declared.types.StabilitySpot.{StabilitySpot}
-use Rattle.solver_critical_step.specs.declared.types.StabilityPlace.{StabilityPlace}
-use Rattle.solver_critical_step.specs.declared.types.StabilityPlace.TheVariants as Stability
 use Rattle.solver_critical_step.specs.declared.types.SpinodalsSpot.{SpinodalsSpot}
 use Rattle.solver_critical_step.specs.declared.types.SpinodalsSpot.TheVariants.{CriticalSearch, VaporSpinodal, LiquidSpinodal}
-use Rattle.solver_critical_step.specs.declared.types.SpinodalsPlace.{SpinodalsPlace}
-use Rattle.solver_critical_step.specs.declared.types.SpinodalsPlace.TheVariants.{Ended, At}
 use Rattle.solver_critical_step.specs.CriticalStep.{critical_at, critical_begin, resume_critical, critical_next}
 
 -- ---- calculate_spinodal
 
 -- with n rounds left, where a round leads
-unfoldable pub stability_on : ℕ → StabilityOutcome → StabilityPlace
-stability_on n (End a) = Stability.Ended a
-stability_on zero (Next ρ) = Stability.Ended (Refused Supercritical)
-stability_on (suc n) (Next ρ) = Stability.At (record { rounds = n; rho = ρ })
+unfoldable pub stability_on : ℕ → Progress Float → Progress StabilitySpot
+stability_on n (Break a) = Break a
+stability_on zero (Continue ρ) = Break (Err Supercritical)
+stability_on (suc n) (Continue ρ) = Continue (record { rounds = n; rho = ρ })
 
 -- where a search begins
 unfoldable pub stability_start : (ρ : Float) → StabilitySpot
@@ -38,12 +33,12 @@ module _ (maxdensity t : Float) where
   unfoldable pub resume_stability : StabilitySpot → Search
   resume_stability s = spinodal_from maxdensity t (suc s.rounds) s.rho
 
-  unfoldable pub stability_left : StabilityPlace → Search
-  stability_left (Stability.Ended a) = done a
-  stability_left (Stability.At s) = resume_stability s
+  unfoldable pub stability_left : Progress StabilitySpot → Search
+  stability_left (Break a) = done a
+  stability_left (Continue s) = resume_stability s
 
   -- the one evaluation, and where it leads
-  unfoldable pub stability_next : Evaluator → StabilitySpot → StabilityPlace
+  unfoldable pub stability_next : Evaluator → StabilitySpot → Progress StabilitySpot
   stability_next ev s = stability_on s.rounds (stability_round maxdensity s.rho (ev (stability t s.rho)))
 
 -- ---- kind 6
@@ -55,23 +50,23 @@ spinodals_at (VaporSpinodal critical s) = s.rho
 spinodals_at (LiquidSpinodal vapor s) = s.rho
 
 -- where a part stands, or what it leads to
-unfoldable pub liquid_on : (vapor : Float) → StabilityPlace → SpinodalsPlace
-liquid_on vapor (Stability.Ended (Found l)) = Ended (both_answer vapor l.first)
-liquid_on vapor (Stability.Ended (Refused r)) = Ended (Refused r)
-liquid_on vapor (Stability.At s) = At (LiquidSpinodal vapor s)
+unfoldable pub liquid_on : (vapor : Float) → Progress StabilitySpot → Progress SpinodalsSpot
+liquid_on vapor (Break (Ok l)) = Break (both_answer vapor l.first)
+liquid_on vapor (Break (Err r)) = Break (Err r)
+liquid_on vapor (Continue s) = Continue (LiquidSpinodal vapor s)
 
-unfoldable pub vapor_on : (critical : Float) → StabilityPlace → SpinodalsPlace
-vapor_on critical (Stability.Ended (Found v)) = At (LiquidSpinodal v.first (stability_start (liquid_start critical v.first)))
-vapor_on critical (Stability.Ended (Refused r)) = Ended (Refused r)
-vapor_on critical (Stability.At s) = At (VaporSpinodal critical s)
+unfoldable pub vapor_on : (critical : Float) → Progress StabilitySpot → Progress SpinodalsSpot
+vapor_on critical (Break (Ok v)) = Continue (LiquidSpinodal v.first (stability_start (liquid_start critical v.first)))
+vapor_on critical (Break (Err r)) = Break (Err r)
+vapor_on critical (Continue s) = Continue (VaporSpinodal critical s)
 
-unfoldable pub critical_on : (maxdensity : Float) → CriticalPlace → SpinodalsPlace
-critical_on maxdensity (Critical.Ended (Found c)) = At (VaporSpinodal c.second (stability_start (spinodal_start maxdensity Vapor)))
-critical_on maxdensity (Critical.Ended (Refused r)) = Ended (Refused r)
-critical_on maxdensity (Critical.At s) = At (CriticalSearch s)
+unfoldable pub critical_on : (maxdensity : Float) → Progress CriticalSpot → Progress SpinodalsSpot
+critical_on maxdensity (Break (Ok c)) = Continue (VaporSpinodal c.second (stability_start (spinodal_start maxdensity Vapor)))
+critical_on maxdensity (Break (Err r)) = Break (Err r)
+critical_on maxdensity (Continue s) = Continue (CriticalSearch s)
 
 -- where a search begins
-unfoldable pub spinodals_begin : (maxdensity : Float) → SpinodalsPlace
+unfoldable pub spinodals_begin : (maxdensity : Float) → Progress SpinodalsSpot
 spinodals_begin maxdensity = critical_on maxdensity (critical_begin (start_density maxdensity None) None)
 
 module _ (maxdensity t : Float) where
@@ -81,12 +76,12 @@ module _ (maxdensity t : Float) where
   resume_spinodals (VaporSpinodal critical s) = and_then (resume_stability maxdensity t s) (after_vapor maxdensity t critical)
   resume_spinodals (LiquidSpinodal vapor s) = and_then (resume_stability maxdensity t s) (after_liquid maxdensity t vapor)
 
-  unfoldable pub spinodals_left : SpinodalsPlace → Search
-  spinodals_left (Ended a) = done a
-  spinodals_left (At s) = resume_spinodals s
+  unfoldable pub spinodals_left : Progress SpinodalsSpot → Search
+  spinodals_left (Break a) = done a
+  spinodals_left (Continue s) = resume_spinodals s
 
   -- the one evaluation, and where it leads
-  unfoldable pub spinodals_next : Evaluator → SpinodalsSpot → SpinodalsPlace
+  unfoldable pub spinodals_next : Evaluator → SpinodalsSpot → Progress SpinodalsSpot
   spinodals_next ev (CriticalSearch s) = critical_on maxdensity (critical_next maxdensity (start_density maxdensity None) ev s)
   spinodals_next ev (VaporSpinodal critical s) = vapor_on critical (stability_next maxdensity t ev s)
   spinodals_next ev (LiquidSpinodal vapor s) = liquid_on vapor (stability_next maxdensity t ev s)

@@ -6,13 +6,11 @@ use Rattle.solver.specs.Stored.{answer_by, ended_numbers}
 use Rattle.solver_critical_step.specs.declared.types.HkmSpot.{HkmSpot}
 use Rattle.solver_critical_step.specs.declared.types.CriticalSpot.{CriticalSpot}
 use Rattle.solver_critical_step.specs.declared.types.CriticalSpot.TheVariants.{Given, Trial}
-use Rattle.solver_critical_step.specs.declared.types.CriticalPlace.{CriticalPlace}
-use Rattle.solver_critical_step.specs.declared.types.CriticalPlace.TheVariants as Critical
+use Rattle.solver.specs.Answer.{Progress}
+use Rattle.std.specs.declared.ops.ControlFlow.TheVariants.{Break, Continue}
 use Rattle.solver_critical_step.specs.declared.types.StabilitySpot.{StabilitySpot}
 use Rattle.solver_critical_step.specs.declared.types.SpinodalsSpot.{SpinodalsSpot}
 use Rattle.solver_critical_step.specs.declared.types.SpinodalsSpot.TheVariants.{CriticalSearch, VaporSpinodal, LiquidSpinodal}
-use Rattle.solver_critical_step.specs.declared.types.SpinodalsPlace.{SpinodalsPlace}
-use Rattle.solver_critical_step.specs.declared.types.SpinodalsPlace.TheVariants as Spinodals
 
 -- a place that asks
 unfoldable pub spot_numbers : (stage tag way rounds : ℕ) (x y : Float) → Numbers
@@ -27,9 +25,9 @@ unfoldable pub critical_spot_numbers : (stage : ℕ) → CriticalSpot → Number
 critical_spot_numbers stage (Given s) = spot_numbers stage 1 0 s.rounds s.p.t s.p.rho
 critical_spot_numbers stage (Trial i s) = spot_numbers stage 2 i s.rounds s.p.t s.p.rho
 
-unfoldable pub critical_numbers : CriticalPlace → Numbers
-critical_numbers (Critical.Ended a) = ended_numbers a
-critical_numbers (Critical.At s) = critical_spot_numbers 0 s
+unfoldable pub critical_numbers : Progress CriticalSpot → Numbers
+critical_numbers (Break a) = ended_numbers a
+critical_numbers (Continue s) = critical_spot_numbers 0 s
 
 unfoldable pub hkm_spot_by : Numbers → HkmSpot
 hkm_spot_by n = record { rounds = n.counters.rounds; p = record { t = n.values.first; rho = n.values.second } }
@@ -37,15 +35,15 @@ hkm_spot_by n = record { rounds = n.counters.rounds; p = record { t = n.values.f
 unfoldable pub critical_spot_by : Numbers → CriticalSpot
 critical_spot_by n = cond (eqb n.counters.tag 1) (Given (hkm_spot_by n)) (Trial n.counters.way (hkm_spot_by n))
 
-unfoldable pub critical_place_by : Numbers → CriticalPlace
-critical_place_by n = cond (eqb n.counters.tag 0) (Critical.Ended (answer_by n.counters.status n.values)) (Critical.At (critical_spot_by n))
+unfoldable pub critical_place_by : Numbers → Progress CriticalSpot
+critical_place_by n = cond (eqb n.counters.tag 0) (Break (answer_by n.counters.status n.values)) (Continue (critical_spot_by n))
 
 -- ---- kind 6: stage 0 is the end, 1 the critical point's search, 2 the vapour's spinodal, any other the liquid's
-unfoldable pub spinodals_numbers : SpinodalsPlace → Numbers
-spinodals_numbers (Spinodals.Ended a) = ended_numbers a
-spinodals_numbers (Spinodals.At (CriticalSearch s)) = critical_spot_numbers 1 s
-spinodals_numbers (Spinodals.At (VaporSpinodal critical s)) = spot_numbers 2 0 0 s.rounds s.rho critical
-spinodals_numbers (Spinodals.At (LiquidSpinodal vapor s)) = spot_numbers 3 0 0 s.rounds s.rho vapor
+unfoldable pub spinodals_numbers : Progress SpinodalsSpot → Numbers
+spinodals_numbers (Break a) = ended_numbers a
+spinodals_numbers (Continue (CriticalSearch s)) = critical_spot_numbers 1 s
+spinodals_numbers (Continue (VaporSpinodal critical s)) = spot_numbers 2 0 0 s.rounds s.rho critical
+spinodals_numbers (Continue (LiquidSpinodal vapor s)) = spot_numbers 3 0 0 s.rounds s.rho vapor
 
 unfoldable pub stability_spot_by : Numbers → StabilitySpot
 stability_spot_by n = record { rounds = n.counters.rounds; rho = n.values.first }
@@ -55,5 +53,5 @@ spinodals_spot_by n =
     cond (eqb n.counters.stage 1) (CriticalSearch (critical_spot_by n))
     (cond (eqb n.counters.stage 2) (VaporSpinodal n.values.second (stability_spot_by n)) (LiquidSpinodal n.values.second (stability_spot_by n)))
 
-unfoldable pub spinodals_place_by : Numbers → SpinodalsPlace
-spinodals_place_by n = cond (eqb n.counters.stage 0) (Spinodals.Ended (answer_by n.counters.status n.values)) (Spinodals.At (spinodals_spot_by n))
+unfoldable pub spinodals_place_by : Numbers → Progress SpinodalsSpot
+spinodals_place_by n = cond (eqb n.counters.stage 0) (Break (answer_by n.counters.status n.values)) (Continue (spinodals_spot_by n))

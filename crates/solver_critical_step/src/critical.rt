@@ -3,22 +3,23 @@ ghost use Rattle.std.specs.Prelude.{◌≡◌, suc};
 ghost use Rattle.solver.specs.Evaluated.{evaluated};
 ghost use Rattle.solver_critical_step.specs.CriticalStep.{hkm_on, hkm_start, hkm_next, critical_at, given_on, trial_at, trial_on, critical_begin, critical_next};
 
-use crate::types::{CriticalPlace, CriticalSpot, HkmPlace, HkmSpot};
+use crate::types::{CriticalSpot, HkmSpot};
 use eos::Blend;
-use solver::{Answer, Refusal};
-use solver_critical::{CriticalOutcome, Point, Start};
+use solver::{Progress, Refusal};
+use solver_critical::Point;
+use std::ops::ControlFlow;
 
 // where a round leads, `rounds` being left
-fn hkm_on(rounds: u64, outcome: CriticalOutcome) -> HkmPlace
+fn hkm_on(rounds: u64, outcome: Progress<Point>) -> Progress<HkmSpot>
     ensures { result ≡ hkm_on rounds outcome }
 {
     match outcome {
-        CriticalOutcome::End(answer) => HkmPlace::Ended(answer),
-        CriticalOutcome::Next(p) => {
+        ControlFlow::Break(answer) => ControlFlow::Break(answer),
+        ControlFlow::Continue(p) => {
             if rounds == 0 {
-                return HkmPlace::Ended(Answer::Refused(Refusal::NotConverged));
+                return ControlFlow::Break(Err(Refusal::NotConverged));
             }
-            HkmPlace::At(HkmSpot {
+            ControlFlow::Continue(HkmSpot {
                 rounds: rounds - 1,
                 p,
             })
@@ -34,7 +35,7 @@ fn hkm_start(t: f64, rho: f64) -> HkmSpot
 }
 
 // the one evaluation of critical_point_hkm at a spot, and where it leads
-fn hkm_next(blend: Blend, maxdensity: f64, spot: HkmSpot) -> HkmPlace
+fn hkm_next(blend: Blend, maxdensity: f64, spot: HkmSpot) -> Progress<HkmSpot>
     ensures { result ≡ hkm_next maxdensity (evaluated blend) spot }
 {
     let p = spot.p;
@@ -45,51 +46,56 @@ fn hkm_next(blend: Blend, maxdensity: f64, spot: HkmSpot) -> HkmPlace
     )
 }
 
-fn given_on(place: HkmPlace) -> CriticalPlace
+fn given_on(place: Progress<HkmSpot>) -> Progress<CriticalSpot>
     ensures { result ≡ given_on place }
 {
     match place {
-        HkmPlace::Ended(answer) => CriticalPlace::Ended(answer),
-        HkmPlace::At(at) => CriticalPlace::At(CriticalSpot::Given(at)),
+        ControlFlow::Break(answer) => ControlFlow::Break(answer),
+        ControlFlow::Continue(at) => ControlFlow::Continue(CriticalSpot::Given(at)),
     }
 }
 
 // a trial begins, or there is none
-fn trial_at(rho: f64, trial: u64) -> CriticalPlace
+fn trial_at(rho: f64, trial: u64) -> Progress<CriticalSpot>
     ensures { result ≡ trial_at rho trial }
 {
     if trial < 3 {
         let at = hkm_start(solver_critical::trial_temperature(trial), rho);
-        return CriticalPlace::At(CriticalSpot::Trial { trial, at });
+        return ControlFlow::Continue(CriticalSpot::Trial { trial, at });
     }
-    CriticalPlace::Ended(Answer::Refused(Refusal::NotConverged))
+    ControlFlow::Break(Err(Refusal::NotConverged))
 }
 
 // the trial after this one
-fn next_trial(rho: f64, trial: u64) -> CriticalPlace
+fn next_trial(rho: f64, trial: u64) -> Progress<CriticalSpot>
     ensures { result ≡ trial_at rho (suc trial) }
 {
     if trial < 3 {
         return trial_at(rho, trial + 1);
     }
-    CriticalPlace::Ended(Answer::Refused(Refusal::NotConverged))
+    ControlFlow::Break(Err(Refusal::NotConverged))
 }
 
 // where a trial stands, or what it leads to
-fn trial_on(rho: f64, trial: u64, place: HkmPlace) -> CriticalPlace
+fn trial_on(rho: f64, trial: u64, place: Progress<HkmSpot>) -> Progress<CriticalSpot>
     ensures { result ≡ trial_on rho trial place }
 {
     match place {
-        HkmPlace::Ended(answer) => match answer {
-            Answer::Found(found) => CriticalPlace::Ended(Answer::Found(found)),
-            Answer::Refused(_) => next_trial(rho, trial),
+        ControlFlow::Break(answer) => match answer {
+            Ok(found) => ControlFlow::Break(Ok(found)),
+            Err(_) => next_trial(rho, trial),
         },
-        HkmPlace::At(at) => CriticalPlace::At(CriticalSpot::Trial { trial, at }),
+        ControlFlow::Continue(at) => ControlFlow::Continue(CriticalSpot::Trial { trial, at }),
     }
 }
 
 // The one evaluation at a spot, and where it leads. `start` is the density that each trial starts from.
-pub fn critical_next(blend: Blend, maxdensity: f64, start: f64, spot: CriticalSpot) -> CriticalPlace
+pub fn critical_next(
+    blend: Blend,
+    maxdensity: f64,
+    start: f64,
+    spot: CriticalSpot,
+) -> Progress<CriticalSpot>
     ensures { result ≡ critical_next maxdensity start (evaluated blend) spot }
 {
     match spot {
@@ -117,11 +123,11 @@ pub fn critical_at(spot: CriticalSpot) -> f64
 }
 
 // where a search begins
-pub fn critical_begin(start: f64, temperature: Start) -> CriticalPlace
+pub fn critical_begin(start: f64, temperature: Option<f64>) -> Progress<CriticalSpot>
     ensures { result ≡ critical_begin start temperature }
 {
     match temperature {
-        Start::None => trial_at(start, 0),
-        Start::Given(t) => CriticalPlace::At(CriticalSpot::Given(hkm_start(t, start))),
+        None => trial_at(start, 0),
+        Some(t) => ControlFlow::Continue(CriticalSpot::Given(hkm_start(t, start))),
     }
 }

@@ -11,7 +11,4 @@ pub use crate::spinodals::{spinodals_at, spinodals_begin, spinodals_next};
 pub use crate::stored::{
     critical_numbers, critical_place_by, spinodals_numbers, spinodals_place_by,
 };
-pub use crate::types::{
-    CriticalPlace, CriticalSpot, HkmPlace, HkmSpot, SpinodalsPlace, SpinodalsSpot, StabilityPlace,
-    StabilitySpot,
-};
+pub use crate::types::{CriticalSpot, HkmSpot, SpinodalsSpot, StabilitySpot};

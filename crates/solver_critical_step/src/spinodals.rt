@@ -4,22 +4,22 @@ ghost use Rattle.solver.specs.Evaluated.{evaluated};
 ghost use Rattle.solver_critical_step.specs.SpinodalsStep.{stability_on, stability_start, stability_next, spinodals_at, liquid_on, vapor_on, critical_on, spinodals_begin, spinodals_next};
 
 use crate::critical::{critical_at, critical_begin, critical_next};
-use crate::types::{CriticalPlace, SpinodalsPlace, SpinodalsSpot, StabilityPlace, StabilitySpot};
+use crate::types::{CriticalSpot, SpinodalsSpot, StabilitySpot};
 use eos::Blend;
-use solver::{Answer, DensityInitialization, Refusal};
-use solver_critical::{StabilityOutcome, Start};
+use solver::{DensityInitialization, Progress, Refusal};
+use std::ops::ControlFlow;
 
 // where a round leads, `rounds` being left
-fn stability_on(rounds: u64, outcome: StabilityOutcome) -> StabilityPlace
+fn stability_on(rounds: u64, outcome: Progress<f64>) -> Progress<StabilitySpot>
     ensures { result ≡ stability_on rounds outcome }
 {
     match outcome {
-        StabilityOutcome::End(answer) => StabilityPlace::Ended(answer),
-        StabilityOutcome::Next(rho) => {
+        ControlFlow::Break(answer) => ControlFlow::Break(answer),
+        ControlFlow::Continue(rho) => {
             if rounds == 0 {
-                return StabilityPlace::Ended(Answer::Refused(Refusal::Supercritical));
+                return ControlFlow::Break(Err(Refusal::Supercritical));
             }
-            StabilityPlace::At(StabilitySpot {
+            ControlFlow::Continue(StabilitySpot {
                 rounds: rounds - 1,
                 rho,
             })
@@ -34,7 +34,12 @@ fn stability_start(rho: f64) -> StabilitySpot
 }
 
 // the one evaluation of calculate_spinodal at a spot, and where it leads
-fn stability_next(blend: Blend, maxdensity: f64, t: f64, spot: StabilitySpot) -> StabilityPlace
+fn stability_next(
+    blend: Blend,
+    maxdensity: f64,
+    t: f64,
+    spot: StabilitySpot,
+) -> Progress<StabilitySpot>
     ensures { result ≡ stability_next maxdensity t (evaluated blend) spot }
 {
     let rho = spot.rho;
@@ -46,64 +51,73 @@ fn stability_next(blend: Blend, maxdensity: f64, t: f64, spot: StabilitySpot) ->
 }
 
 // where the liquid's spinodal stands, or the end
-fn liquid_on(vapor: f64, place: StabilityPlace) -> SpinodalsPlace
+fn liquid_on(vapor: f64, place: Progress<StabilitySpot>) -> Progress<SpinodalsSpot>
     ensures { result ≡ liquid_on vapor place }
 {
     match place {
-        StabilityPlace::Ended(answer) => match answer {
-            Answer::Found(liquid) => {
-                SpinodalsPlace::Ended(solver_critical::both_answer(vapor, liquid.first))
-            }
-            Answer::Refused(refusal) => SpinodalsPlace::Ended(Answer::Refused(refusal)),
+        ControlFlow::Break(answer) => match answer {
+            Ok(liquid) => { ControlFlow::Break(solver_critical::both_answer(vapor, liquid.first)) }
+            Err(refusal) => ControlFlow::Break(Err(refusal)),
         },
-        StabilityPlace::At(at) => SpinodalsPlace::At(SpinodalsSpot::LiquidSpinodal { vapor, at }),
+        ControlFlow::Continue(at) => ControlFlow::Continue(SpinodalsSpot::LiquidSpinodal {
+            vapor,
+            at,
+        }),
     }
 }
 
 // where the vapour's spinodal stands, or the liquid's begins
-fn vapor_on(critical: f64, place: StabilityPlace) -> SpinodalsPlace
+fn vapor_on(critical: f64, place: Progress<StabilitySpot>) -> Progress<SpinodalsSpot>
     ensures { result ≡ vapor_on critical place }
 {
     match place {
-        StabilityPlace::Ended(answer) => match answer {
-            Answer::Found(found) => {
+        ControlFlow::Break(answer) => match answer {
+            Ok(found) => {
                 let vapor = found.first;
                 let at = stability_start(solver_critical::liquid_start(critical, vapor));
-                SpinodalsPlace::At(SpinodalsSpot::LiquidSpinodal { vapor, at })
+                ControlFlow::Continue(SpinodalsSpot::LiquidSpinodal { vapor, at })
             }
-            Answer::Refused(refusal) => SpinodalsPlace::Ended(Answer::Refused(refusal)),
+            Err(refusal) => ControlFlow::Break(Err(refusal)),
         },
-        StabilityPlace::At(at) => SpinodalsPlace::At(SpinodalsSpot::VaporSpinodal { critical, at }),
+        ControlFlow::Continue(at) => ControlFlow::Continue(SpinodalsSpot::VaporSpinodal {
+            critical,
+            at,
+        }),
     }
 }
 
 // where the critical point's search stands, or the vapour's spinodal begins
-fn critical_on(maxdensity: f64, place: CriticalPlace) -> SpinodalsPlace
+fn critical_on(maxdensity: f64, place: Progress<CriticalSpot>) -> Progress<SpinodalsSpot>
     ensures { result ≡ critical_on maxdensity place }
 {
     match place {
-        CriticalPlace::Ended(answer) => match answer {
-            Answer::Found(found) => {
+        ControlFlow::Break(answer) => match answer {
+            Ok(found) => {
                 let critical = found.second;
                 let at = stability_start(solver_critical::spinodal_start(
                     maxdensity,
                     DensityInitialization::Vapor,
                 ));
-                SpinodalsPlace::At(SpinodalsSpot::VaporSpinodal { critical, at })
+                ControlFlow::Continue(SpinodalsSpot::VaporSpinodal { critical, at })
             }
-            Answer::Refused(refusal) => SpinodalsPlace::Ended(Answer::Refused(refusal)),
+            Err(refusal) => ControlFlow::Break(Err(refusal)),
         },
-        CriticalPlace::At(at) => SpinodalsPlace::At(SpinodalsSpot::CriticalSearch(at)),
+        ControlFlow::Continue(at) => ControlFlow::Continue(SpinodalsSpot::CriticalSearch(at)),
     }
 }
 
 // the one evaluation at a spot, and where it leads
-pub fn spinodals_next(blend: Blend, maxdensity: f64, t: f64, spot: SpinodalsSpot) -> SpinodalsPlace
+pub fn spinodals_next(
+    blend: Blend,
+    maxdensity: f64,
+    t: f64,
+    spot: SpinodalsSpot,
+) -> Progress<SpinodalsSpot>
     ensures { result ≡ spinodals_next maxdensity t (evaluated blend) spot }
 {
     match spot {
         SpinodalsSpot::CriticalSearch(at) => {
-            let start = solver_critical::start_density(maxdensity, Start::None);
+            let start = solver_critical::start_density(maxdensity, None);
             critical_on(maxdensity, critical_next(blend, maxdensity, start, at))
         }
         SpinodalsSpot::VaporSpinodal { critical, at } => {
@@ -127,9 +141,9 @@ pub fn spinodals_at(spot: SpinodalsSpot) -> f64
 }
 
 // where a search begins
-pub fn spinodals_begin(maxdensity: f64) -> SpinodalsPlace
+pub fn spinodals_begin(maxdensity: f64) -> Progress<SpinodalsSpot>
     ensures { result ≡ spinodals_begin maxdensity }
 {
-    let start = solver_critical::start_density(maxdensity, Start::None);
-    critical_on(maxdensity, critical_begin(start, Start::None))
+    let start = solver_critical::start_density(maxdensity, None);
+    critical_on(maxdensity, critical_begin(start, None))
 }

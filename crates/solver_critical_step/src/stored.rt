@@ -2,11 +2,10 @@
 ghost use Rattle.std.specs.Prelude.{◌≡◌};
 ghost use Rattle.solver_critical_step.specs.Stored.{spot_numbers, critical_spot_numbers, critical_numbers, hkm_spot_by, critical_spot_by, critical_place_by, spinodals_numbers, stability_spot_by, spinodals_spot_by, spinodals_place_by};
 
-use crate::types::{
-    CriticalPlace, CriticalSpot, HkmSpot, SpinodalsPlace, SpinodalsSpot, StabilitySpot,
-};
-use solver::{Counters, Numbers, Values};
+use crate::types::{CriticalSpot, HkmSpot, SpinodalsSpot, StabilitySpot};
+use solver::{Counters, Numbers, Progress, Values};
 use solver_critical::Point;
+use std::ops::ControlFlow;
 
 fn spot_numbers(stage: u64, tag: u64, way: u64, rounds: u64, x: f64, y: f64) -> Numbers
     ensures { result ≡ spot_numbers stage tag way rounds x y }
@@ -42,12 +41,12 @@ fn critical_spot_numbers(stage: u64, spot: CriticalSpot) -> Numbers
     }
 }
 
-pub fn critical_numbers(place: CriticalPlace) -> Numbers
+pub fn critical_numbers(place: Progress<CriticalSpot>) -> Numbers
     ensures { result ≡ critical_numbers place }
 {
     match place {
-        CriticalPlace::Ended(answer) => solver::ended_numbers(answer),
-        CriticalPlace::At(spot) => critical_spot_numbers(0, spot),
+        ControlFlow::Break(answer) => solver::ended_numbers(answer),
+        ControlFlow::Continue(spot) => critical_spot_numbers(0, spot),
     }
 }
 
@@ -80,23 +79,23 @@ fn critical_spot_by(n: Numbers) -> CriticalSpot
     }
 }
 
-pub fn critical_place_by(n: Numbers) -> CriticalPlace
+pub fn critical_place_by(n: Numbers) -> Progress<CriticalSpot>
     ensures { result ≡ critical_place_by n }
 {
     let counters = n.counters;
     let values = n.values;
     if counters.tag == 0 {
-        return CriticalPlace::Ended(solver::answer_by(counters.status, values));
+        return ControlFlow::Break(solver::answer_by(counters.status, values));
     }
-    CriticalPlace::At(critical_spot_by(n))
+    ControlFlow::Continue(critical_spot_by(n))
 }
 
-pub fn spinodals_numbers(place: SpinodalsPlace) -> Numbers
+pub fn spinodals_numbers(place: Progress<SpinodalsSpot>) -> Numbers
     ensures { result ≡ spinodals_numbers place }
 {
     match place {
-        SpinodalsPlace::Ended(answer) => solver::ended_numbers(answer),
-        SpinodalsPlace::At(spot) => match spot {
+        ControlFlow::Break(answer) => solver::ended_numbers(answer),
+        ControlFlow::Continue(spot) => match spot {
             SpinodalsSpot::CriticalSearch(at) => critical_spot_numbers(1, at),
             SpinodalsSpot::VaporSpinodal { critical, at } => {
                 spot_numbers(2, 0, 0, at.rounds, at.rho, critical)
@@ -141,13 +140,13 @@ fn spinodals_spot_by(n: Numbers) -> SpinodalsSpot
     }
 }
 
-pub fn spinodals_place_by(n: Numbers) -> SpinodalsPlace
+pub fn spinodals_place_by(n: Numbers) -> Progress<SpinodalsSpot>
     ensures { result ≡ spinodals_place_by n }
 {
     let counters = n.counters;
     let values = n.values;
     if counters.stage == 0 {
-        return SpinodalsPlace::Ended(solver::answer_by(counters.status, values));
+        return ControlFlow::Break(solver::answer_by(counters.status, values));
     }
-    SpinodalsPlace::At(spinodals_spot_by(n))
+    ControlFlow::Continue(spinodals_spot_by(n))
 }

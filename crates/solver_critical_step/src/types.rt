@@ -1,5 +1,4 @@
 // The places of a search that ask for an evaluation, each with the numbers that it goes on from.
-use solver::Answer;
 use solver_critical::Point;
 
 // In critical_point_hkm: the rounds left after this one, and where it is.
@@ -9,23 +8,11 @@ pub struct HkmSpot {
     pub p: Point,
 }
 
-#[derive(Clone, Copy)]
-pub enum HkmPlace {
-    Ended(Answer),
-    At(HkmSpot),
-}
-
 // In the search of kinds 5 and 7: from a given temperature, or in a trial, the trials counted from 0.
 #[derive(Clone, Copy)]
 pub enum CriticalSpot {
     Given(HkmSpot),
     Trial { trial: u64, at: HkmSpot },
-}
-
-#[derive(Clone, Copy)]
-pub enum CriticalPlace {
-    Ended(Answer),
-    At(CriticalSpot),
 }
 
 // In calculate_spinodal: the rounds left after this one, and the density.
@@ -35,12 +22,6 @@ pub struct StabilitySpot {
     pub rho: f64,
 }
 
-#[derive(Clone, Copy)]
-pub enum StabilityPlace {
-    Ended(Answer),
-    At(StabilitySpot),
-}
-
 // In the search of kind 6: its critical point, the vapour's spinodal with the critical density, or the liquid's
 // with the vapour's density.
 #[derive(Clone, Copy)]
@@ -48,10 +29,4 @@ pub enum SpinodalsSpot {
     CriticalSearch(CriticalSpot),
     VaporSpinodal { critical: f64, at: StabilitySpot },
     LiquidSpinodal { vapor: f64, at: StabilitySpot },
-}
-
-#[derive(Clone, Copy)]
-pub enum SpinodalsPlace {
-    Ended(Answer),
-    At(SpinodalsSpot),
 }

@@ -10,15 +10,15 @@ use Rattle.solver.specs.Decimals.{d1e_8}
 use Rattle.solver.specs.declared.types.DensityInitialization.{DensityInitialization}
 use Rattle.solver.specs.declared.types.DensityInitialization.TheVariants.{Vapor, Liquid}
 use Rattle.solver.specs.declared.types.Values.{Values}
-use Rattle.solver.specs.declared.types.Answer.{Answer}
-use Rattle.solver.specs.declared.types.Answer.TheVariants.{Found, Refused}
+use Rattle.solver.specs.Answer.{Answer}
+use Rattle.std.specs.Prelude.{Ok, Err}
 use Rattle.solver.specs.Answer.{number_of, status_of, is27}
 use Rattle.solver.specs.Search.{Evaluator, Search, done, bind, tested, run, clean, answer_of, found_and, Ruled, potential}
 use Rattle.solver.proofs.Rule.{exactly_27, answer_bind, ruled_done, ruled_asks, ruled_tested, ruled_cond, ruled_then}
 use Rattle.solver_density.specs.declared.types.Branch.{Branch}
 use Rattle.solver_density.specs.declared.types.Conditions.{Conditions}
-use Rattle.solver_density.specs.declared.types.Outcome.{Outcome}
-use Rattle.solver_density.specs.declared.types.Outcome.TheVariants.{End, Next}
+use Rattle.solver.specs.Answer.{Progress}
+use Rattle.std.specs.declared.ops.ControlFlow.TheVariants.{Break, Continue}
 use Rattle.solver_density.specs.declared.types.Nearest.{Nearest}
 use Rattle.solver_density.specs.declared.types.Nearest.TheVariants.{HighDensity, AboveConvex, BelowConcave}
 use Rattle.solver_density.specs.declared.types.Detour.{Detour}
@@ -36,15 +36,15 @@ ruled_tested3 : {t : Search} (y : Pressure) → Ruled t → Ruled (tested3 y t)
 ruled_tested3 y r = ruled_tested y.p (ruled_tested y.dp_drho (ruled_tested y.d2p_drho2 r))
 
 -- ---- kinds 3 and 4
-data Other : Outcome → Type 0 where
-  ends : {a : Answer} → is27 a ≡ false → Other (End a)
-  goes : {ρ : Float} → Other (Next ρ)
+data Other : Progress Float → Type 0 where
+  ends : {a : Answer} → is27 a ≡ false → Other (Break a)
+  goes : {ρ : Float} → Other (Continue ρ)
 
-other_cond : {s t : Outcome} (b : Bool) → Other s → Other t → Other (cond b s t)
+other_cond : {s t : Progress Float} (b : Bool) → Other s → Other t → Other (cond b s t)
 other_cond true r q = r
 other_cond false r q = q
 
-ruled_continued : (o : Outcome) (again : Float → Search) → Other o → ((ρ : Float) → Ruled (again ρ)) → Ruled (continued o again)
+ruled_continued : (o : Progress Float) (again : Float → Search) → Other o → ((ρ : Float) → Ruled (again ρ)) → Ruled (continued o again)
 unfolding continued
 ruled_continued _ again (ends e) h = ruled_done e
 ruled_continued _ again (goes {ρ = ρ}) h = ruled_tested ρ (h ρ)
@@ -118,10 +118,10 @@ potentials_27 ev t l v = exactly_27 ev 0 (ruled_potentials t l v) ∙ ap (λ (b 
 
 phases_27 : (ev : Evaluator) (t : Float) (l v : Answer) → is27 (answer_of ev (stable_phase t l v)) ≡ found_and l (λ l. found_and v (potentials_not_finite ev t l))
 unfolding stable_phase found_and run is27 status_of number_of
-phases_27 ev t (Found l) (Found v) = potentials_27 ev t l v
-phases_27 ev t (Found l) (Refused r) = refl
-phases_27 ev t (Refused q) (Found v) = refl
-phases_27 ev t (Refused q) (Refused r) = refl
+phases_27 ev t (Ok l) (Ok v) = potentials_27 ev t l v
+phases_27 ev t (Ok l) (Err r) = refl
+phases_27 ev t (Err q) (Ok v) = refl
+phases_27 ev t (Err q) (Err r) = refl
 
 -- ---- the theorems
 module _ (ev : Evaluator) (maxdensity t : Float) where

@@ -13,8 +13,8 @@ use Rattle.solver.specs.declared.types.DensityInitialization.TheVariants.{Vapor,
 use Rattle.solver.specs.declared.types.Values.{Values}
 use Rattle.solver.specs.declared.types.Refusal.{Refusal}
 use Rattle.solver.specs.declared.types.Refusal.TheVariants.{NotConverged, NotFinite}
-use Rattle.solver.specs.declared.types.Answer.{Answer}
-use Rattle.solver.specs.declared.types.Answer.TheVariants.{Found, Refused}
+use Rattle.solver.specs.Answer.{Answer}
+use Rattle.std.specs.Prelude.{Ok, Err}
 use Rattle.solver.specs.declared.types.Ran.{Ran}
 use Rattle.solver.specs.Search.{Search, done, refuse, and_then, run, settle}
 use Rattle.solver.specs.Evaluated.{evaluated}
@@ -23,7 +23,7 @@ use Rattle.solver.proofs.Steps.{settled}
 use Rattle.solver_density.specs.declared.types.Branch.{Branch}
 use Rattle.solver_density.specs.declared.types.Conditions.{Conditions}
 use Rattle.solver_density.specs.declared.types.Detour.{Detour}
-use Rattle.solver_density.specs.declared.types.Outcome.{Outcome}
+use Rattle.solver.specs.Answer.{Progress}
 use Rattle.solver_density.specs.declared.types.SlopeOutcome.{SlopeOutcome}
 use Rattle.solver_density.specs.Spinodal.{tested3, spinodal_from, pressure_spinodal, branch_start, branch_answer, pressure_spinodal_branch}
 use Rattle.solver_density.specs.Density.{corrected, detour_of, detour, unstable, density_from, first_round, density_search, density_iteration}
@@ -33,7 +33,7 @@ use Rattle.solver_density.proofs.Settles.{tests3, led, round_led, slope_led, slo
 
 -- ---- the loop of a spinodal search
 module _ (b : Blend) (maxdensity t : Float) where
-  pub spinodal_turn : (ρ : Float) (left n : ℕ) (y : Pressure) (o : Outcome) (w : Ran) → 0 < left → y ≡ p_dpdrho_d2pdrho2 b t ρ → o ≡ spinodal_round maxdensity ρ y
+  pub spinodal_turn : (ρ : Float) (left n : ℕ) (y : Pressure) (o : Progress Float) (w : Ran) → 0 < left → y ≡ p_dpdrho_d2pdrho2 b t ρ → o ≡ spinodal_round maxdensity ρ y
       → ran b n (spinodal_from maxdensity t left ρ) ≡ w → ran b (n + 1) (led o (spinodal_from maxdensity t (left - 1))) ≡ w
   unfolding run spinodal_from evaluated
   spinodal_turn ρ zero n y o w h ey eo e = absurd (omega arith)
@@ -41,7 +41,7 @@ module _ (b : Blend) (maxdensity t : Float) where
       let q : suc m - 1 ≡ m = omega arith in
       rw (q, eo, ey) (same_run b (n + 1) _ _ (sym (round_led maxdensity ρ (p_dpdrho_d2pdrho2 b t ρ) (spinodal_from maxdensity t m))) ∙ e)
 
-  pub spinodal_over : (ρ : Float) (left n : ℕ) (w : Ran) → left ≤ 0 → ran b n (spinodal_from maxdensity t left ρ) ≡ w → record { answer = Refused NotConverged; evaluations = n } ≡ w
+  pub spinodal_over : (ρ : Float) (left n : ℕ) (w : Ran) → left ≤ 0 → ran b n (spinodal_from maxdensity t left ρ) ≡ w → record { answer = Err NotConverged; evaluations = n } ≡ w
   unfolding run spinodal_from
   spinodal_over ρ zero n w h e = e
   spinodal_over ρ (suc m) n w h e = absurd (omega arith)
@@ -50,11 +50,11 @@ module _ (b : Blend) (maxdensity t : Float) (branch : Branch) (start : Float) (s
   from_start : s ≡ ran b 0 (pressure_spinodal maxdensity t (branch_start maxdensity branch))
   from_start = e ∙ ap (λ (x : Float). ran b 0 (pressure_spinodal maxdensity t x)) es
 
-  pub branch_found : (v : Values) (a : Answer) → s.answer ≡ Found v → a ≡ branch_answer branch v → record { answer = a; evaluations = s.evaluations } ≡ ran b 0 (pressure_spinodal_branch maxdensity t branch)
+  pub branch_found : (v : Values) (a : Answer) → s.answer ≡ Ok v → a ≡ branch_answer branch v → record { answer = a; evaluations = s.evaluations } ≡ ran b 0 (pressure_spinodal_branch maxdensity t branch)
   unfolding pressure_spinodal_branch
   branch_found v a f ea = rw ea (then_done b (pressure_spinodal maxdensity t (branch_start maxdensity branch)) (branch_answer branch) s v from_start f)
 
-  pub branch_refused : (r : Refusal) → s.answer ≡ Refused r → record { answer = Refused r; evaluations = s.evaluations } ≡ ran b 0 (pressure_spinodal_branch maxdensity t branch)
+  pub branch_refused : (r : Refusal) → s.answer ≡ Err r → record { answer = Err r; evaluations = s.evaluations } ≡ ran b 0 (pressure_spinodal_branch maxdensity t branch)
   unfolding pressure_spinodal_branch
   branch_refused r f = then_refused b (pressure_spinodal maxdensity t (branch_start maxdensity branch)) (λ v. done (branch_answer branch v)) s r from_start f
 
@@ -77,7 +77,7 @@ module _ (b : Blend) (c : Conditions) where
       on = detour c (detour_of c.maxdensity ρ error z.d2p_drho2)
 
   pub unstable_refused : (ρ error : Float) (y : Pressure) (ok : Bool) → y ≡ p_dpdrho_d2pdrho2 b c.temperature ρ → ok ≡ finite3 y → ok ≡ false
-      → record { answer = Refused NotFinite; evaluations = 1 } ≡ ran b 0 (unstable c ρ error)
+      → record { answer = Err NotFinite; evaluations = 1 } ≡ ran b 0 (unstable c ρ error)
   unfolding run
   unstable_refused ρ error y ok ey eo f = rw f at (unstable_tests ρ error y ok ey eo)
 
@@ -103,7 +103,7 @@ module _ (b : Blend) (c : Conditions) where
       let q : suc m - 1 ≡ m = omega arith in
       rw (q, eo, ey) (same_run b (n + 1) _ _ (sym (slope_led_lem c ρ (p_dpdrho b c.temperature ρ) (in_unstable m ρ) (density_from c m))) ∙ e)
 
-  pub density_over : (ρ : Float) (left n : ℕ) (w : Ran) → left ≤ 0 → ran b n (density_from c left ρ) ≡ w → record { answer = Refused NotConverged; evaluations = n } ≡ w
+  pub density_over : (ρ : Float) (left n : ℕ) (w : Ran) → left ≤ 0 → ran b n (density_from c left ρ) ≡ w → record { answer = Err NotConverged; evaluations = n } ≡ w
   unfolding run density_from
   density_over ρ zero n w h e = e
   density_over ρ (suc m) n w h e = absurd (omega arith)
@@ -115,12 +115,12 @@ module _ (b : Blend) (c : Conditions) where
 
 -- ---- the stable density
 module _ (b : Blend) (t : Float) (l v : Values) (μl : Float) (el : μl ≡ chemical_potential b t l.first) where
-  pub liquid_infinite : finite_of μl ≡ false → record { answer = Refused NotFinite; evaluations = 1 } ≡ ran b 0 (potentials t l v)
+  pub liquid_infinite : finite_of μl ≡ false → record { answer = Err NotFinite; evaluations = 1 } ≡ ran b 0 (potentials t l v)
   unfolding run potentials evaluated
   liquid_infinite f = rw (run_tested finite_of (evaluated b) 1 _ _, ← el, f)
 
   module _ (fl : finite_of μl ≡ true) (μv : Float) (ev : μv ≡ chemical_potential b t v.first) where
-    pub vapor_infinite : finite_of μv ≡ false → record { answer = Refused NotFinite; evaluations = 2 } ≡ ran b 0 (potentials t l v)
+    pub vapor_infinite : finite_of μv ≡ false → record { answer = Err NotFinite; evaluations = 2 } ≡ ran b 0 (potentials t l v)
     unfolding run potentials vapor_potential evaluated
     vapor_infinite f = rw (run_tested finite_of (evaluated b) 1 _ _, ← el, fl, run_tested finite_of (evaluated b) 2 _ _, ← ev, f)
 

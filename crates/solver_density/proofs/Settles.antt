@@ -6,13 +6,13 @@ use Rattle.float.specs.Ops.{◌⊖◌}
 use Rattle.float.specs.Sign.{finite_of, negative_of}
 use Rattle.evaluations.specs.declared.types.Pressure.{Pressure}
 use Rattle.solver.specs.declared.types.Refusal.TheVariants.{NotFinite}
-use Rattle.solver.specs.declared.types.Answer.{Answer}
-use Rattle.solver.specs.declared.types.Answer.TheVariants.{Refused}
+use Rattle.solver.specs.Answer.{Answer}
+use Rattle.std.specs.Prelude.{Ok, Err}
 use Rattle.solver.specs.Search.{Search, done, refuse, tested, bind, settle}
 use Rattle.solver.proofs.Steps.{settle_tested, settled, cond_both, settled_bind}
 use Rattle.solver_density.specs.declared.types.Conditions.{Conditions}
-use Rattle.solver_density.specs.declared.types.Outcome.{Outcome}
-use Rattle.solver_density.specs.declared.types.Outcome.TheVariants.{End, Next}
+use Rattle.solver.specs.Answer.{Progress}
+use Rattle.std.specs.declared.ops.ControlFlow.TheVariants.{Break, Continue}
 use Rattle.solver_density.specs.declared.types.SlopeOutcome.{SlopeOutcome}
 use Rattle.solver_density.specs.declared.types.SlopeOutcome.TheVariants as Slope
 use Rattle.solver_density.specs.Spinodal.{tested3, continued, spinodal_outcome}
@@ -27,16 +27,16 @@ tests3 y t =
     ∙ cond_both (finite_of y.p) _ (settled t) (refuse NotFinite))
 
 -- ---- a round of a spinodal search
-unfoldable pub led : Outcome → (Float → Search) → Search
-led (End a) again = done a
-led (Next ρ) again = again ρ
+unfoldable pub led : Progress Float → (Float → Search) → Search
+led (Break a) again = done a
+led (Continue ρ) again = again ρ
 
-outcome_led : (o : Outcome) (again : Float → Search) → settled (continued o again) ≡ settled (led (tested_outcome o) again)
+outcome_led : (o : Progress Float) (again : Float → Search) → settled (continued o again) ≡ settled (led (tested_outcome o) again)
 unfolding settle continued tested_outcome led
-outcome_led (End a) again = refl
-outcome_led (Next ρ) again = settle_tested finite_of ρ (again ρ) ∙ by (finite_of ρ)
+outcome_led (Break a) again = refl
+outcome_led (Continue ρ) again = settle_tested finite_of ρ (again ρ) ∙ by (finite_of ρ)
   where
-    by : (b : Bool) → cond b (settled (again ρ)) (refuse NotFinite) ≡ settled (led (cond b (Next ρ) (End (Refused NotFinite))) again)
+    by : (b : Bool) → cond b (settled (again ρ)) (refuse NotFinite) ≡ settled (led (cond b (Continue ρ) (Break (Err NotFinite))) again)
     by true = refl
     by false = refl
 
@@ -46,10 +46,10 @@ unfolding spinodal_round led settle
 round_led maxdensity ρ y again =
     tests3 y (continued o again) ∙ ap (λ (x : Search). cond (finite3 y) x (refuse NotFinite)) (outcome_led o again) ∙ by (finite3 y)
   where
-    o : Outcome
+    o : Progress Float
     o = spinodal_outcome maxdensity ρ y
 
-    by : (b : Bool) → cond b (settled (led (tested_outcome o) again)) (refuse NotFinite) ≡ settled (led (cond b (tested_outcome o) (End (Refused NotFinite))) again)
+    by : (b : Bool) → cond b (settled (led (tested_outcome o) again)) (refuse NotFinite) ≡ settled (led (cond b (tested_outcome o) (Break (Err NotFinite))) again)
     by true = refl
     by false = refl
 

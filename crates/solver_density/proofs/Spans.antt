@@ -7,14 +7,14 @@ use Rattle.float.specs.Sign.{negative_of}
 use Rattle.evaluations.specs.declared.types.Pressure.{Pressure}
 use Rattle.solver.specs.declared.types.DensityInitialization.{DensityInitialization}
 use Rattle.solver.specs.declared.types.DensityInitialization.TheVariants.{Vapor, Liquid}
-use Rattle.solver.specs.declared.types.Answer.{Answer}
-use Rattle.solver.specs.declared.types.Answer.TheVariants.{Found, Refused}
+use Rattle.solver.specs.Answer.{Answer}
+use Rattle.std.specs.Prelude.{Ok, Err}
 use Rattle.solver.specs.Search.{Search, Within}
 use Rattle.solver.proofs.Spans.{asked, within_more, within_bind, within_then, within_tested, within_cond}
 use Rattle.solver_density.specs.declared.types.Branch.{Branch}
 use Rattle.solver_density.specs.declared.types.Conditions.{Conditions}
-use Rattle.solver_density.specs.declared.types.Outcome.{Outcome}
-use Rattle.solver_density.specs.declared.types.Outcome.TheVariants.{End, Next}
+use Rattle.solver.specs.Answer.{Progress}
+use Rattle.std.specs.declared.ops.ControlFlow.TheVariants.{Break, Continue}
 use Rattle.solver_density.specs.declared.types.Both.{Both}
 use Rattle.solver_density.specs.declared.types.Detour.{Detour}
 use Rattle.solver_density.specs.declared.types.Detour.TheVariants.{ByNearest, ByBoth}
@@ -26,10 +26,10 @@ within_tested3 : {n : ℕ} {t : Search} (y : Pressure) → Within n t → Within
 within_tested3 y w = within_tested y.p (within_tested y.dp_drho (within_tested y.d2p_drho2 w))
 
 -- ---- kinds 3 and 4
-within_continued : {n : ℕ} (o : Outcome) (again : Float → Search) → ((ρ : Float) → Within n (again ρ)) → Within n (continued o again)
+within_continued : {n : ℕ} (o : Progress Float) (again : Float → Search) → ((ρ : Float) → Within n (again ρ)) → Within n (continued o again)
 unfolding continued
-within_continued (End a) again h = Within.ended
-within_continued (Next ρ) again h = within_tested ρ (h ρ)
+within_continued (Break a) again h = Within.ended
+within_continued (Continue ρ) again h = within_tested ρ (h ρ)
 
 spinodal_from_lem : (maxdensity t : Float) (n : ℕ) (ρ : Float) → Within n (spinodal_from maxdensity t n ρ)
 unfolding spinodal_from
@@ -90,10 +90,10 @@ density_3101 maxdensity t p initial = search_3101 (conditions_of maxdensity t p 
 -- ---- kind 2
 pub phase_2 : (t : Float) (l v : Answer) → Within 2 (stable_phase t l v)
 unfolding stable_phase potentials vapor_potential
-phase_2 t (Found l) (Found v) = asked 1 2 (omega arith) (λ μl. within_tested μl (asked 0 1 (omega arith) (λ μv. within_tested μv Within.ended)))
-phase_2 t (Found l) (Refused r) = Within.ended
-phase_2 t (Refused q) (Found v) = Within.ended
-phase_2 t (Refused q) (Refused r) = Within.ended
+phase_2 t (Ok l) (Ok v) = asked 1 2 (omega arith) (λ μl. within_tested μl (asked 0 1 (omega arith) (λ μv. within_tested μv Within.ended)))
+phase_2 t (Ok l) (Err r) = Within.ended
+phase_2 t (Err q) (Ok v) = Within.ended
+phase_2 t (Err q) (Err r) = Within.ended
 
 pub stable_6204 : (maxdensity t p : Float) → Within 6204 (density_iteration_stable maxdensity t p)
 unfolding density_iteration_stable after_liquid

@@ -9,8 +9,8 @@ use Rattle.solver.specs.declared.types.DensityInitialization.{DensityInitializat
 use Rattle.solver.specs.declared.types.DensityInitialization.TheVariants.{Vapor, Liquid, InitialDensity}
 use Rattle.solver.specs.declared.types.Values.{Values}
 use Rattle.solver.specs.declared.types.Refusal.TheVariants.{StartNotPositive, NotConverged, IterationFailed}
-use Rattle.solver.specs.declared.types.Answer.{Answer}
-use Rattle.solver.specs.declared.types.Answer.TheVariants.{Found, Refused}
+use Rattle.solver.specs.Answer.{Answer}
+use Rattle.std.specs.Prelude.{Ok, Err}
 use Rattle.solver.specs.Search.{Search, done, ask, refuse, tested, and_then, slope, curvature}
 use Rattle.solver_density.specs.declared.types.Branch.TheVariants as Branch
 use Rattle.solver_density.specs.declared.types.Conditions.{Conditions}
@@ -24,7 +24,7 @@ use Rattle.solver_density.specs.Spinodal.{capped, tested3, pressure_spinodal, pr
 
 -- a density, handed out or to go on from
 abbrev pub density : Float → Answer
-density ρ = Found (record { first = ρ; second = f0; third = f0 })
+density ρ = Ok (record { first = ρ; second = f0; third = f0 })
 
 unfoldable pub start_of : (maxdensity t p : Float) → DensityInitialization → Float
 start_of maxdensity t p Vapor = p ⊘ t
@@ -62,7 +62,7 @@ module _ (c : Conditions) where
   unfoldable pub after_nearest : Nearest → Values → Answer
   after_nearest HighDensity sp =
       cond (lt (d0·85 ⊗ c.maxdensity) sp.second)
-      (cond (negative_of (sp.first ⊖ c.pressure)) (Refused IterationFailed) (density (sp.second ⊗ d0·98)))
+      (cond (negative_of (sp.first ⊖ c.pressure)) (Err IterationFailed) (density (sp.second ⊗ d0·98)))
       (density (beside_spinodal sp))
   after_nearest AboveConvex sp = density (beside_spinodal sp)
   after_nearest BelowConcave sp = density (cond (negative_of (sp.first ⊖ c.pressure)) (d0·8 ⊗ c.maxdensity) (sp.second ⊗ d0·8))

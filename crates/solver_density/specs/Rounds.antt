@@ -4,10 +4,10 @@ use Rattle.float.specs.Ops.{◌⊖◌}
 use Rattle.float.specs.Sign.{finite_of, negative_of}
 use Rattle.evaluations.specs.declared.types.Pressure.{Pressure}
 use Rattle.solver.specs.declared.types.Refusal.TheVariants.{NotFinite}
-use Rattle.solver.specs.declared.types.Answer.TheVariants.{Refused}
+use Rattle.std.specs.Prelude.{Ok, Err}
 use Rattle.solver_density.specs.declared.types.Conditions.{Conditions}
-use Rattle.solver_density.specs.declared.types.Outcome.{Outcome}
-use Rattle.solver_density.specs.declared.types.Outcome.TheVariants.{End, Next}
+use Rattle.solver.specs.Answer.{Progress}
+use Rattle.std.specs.declared.ops.ControlFlow.TheVariants.{Break, Continue}
 use Rattle.solver_density.specs.declared.types.SlopeOutcome.{SlopeOutcome}
 use Rattle.solver_density.specs.declared.types.SlopeOutcome.TheVariants as Slope
 use Rattle.solver_density.specs.Spinodal.{spinodal_outcome}
@@ -16,12 +16,12 @@ use Rattle.solver_density.specs.Density.{newton, converged}
 unfoldable pub finite3 : Pressure → Bool
 finite3 y = finite_of y.p && (finite_of y.dp_drho && finite_of y.d2p_drho2)
 
-unfoldable pub tested_outcome : Outcome → Outcome
-tested_outcome (End a) = End a
-tested_outcome (Next ρ) = cond (finite_of ρ) (Next ρ) (End (Refused NotFinite))
+unfoldable pub tested_outcome : Progress Float → Progress Float
+tested_outcome (Break a) = Break a
+tested_outcome (Continue ρ) = cond (finite_of ρ) (Continue ρ) (Break (Err NotFinite))
 
-unfoldable pub spinodal_round : (maxdensity ρ : Float) → Pressure → Outcome
-spinodal_round maxdensity ρ y = cond (finite3 y) (tested_outcome (spinodal_outcome maxdensity ρ y)) (End (Refused NotFinite))
+unfoldable pub spinodal_round : (maxdensity ρ : Float) → Pressure → Progress Float
+spinodal_round maxdensity ρ y = cond (finite3 y) (tested_outcome (spinodal_outcome maxdensity ρ y)) (Break (Err NotFinite))
 
 unfoldable pub newton_round : Conditions → (ρ error dpdrho : Float) → SlopeOutcome
 newton_round c ρ error dpdrho =

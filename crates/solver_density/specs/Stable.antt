@@ -5,14 +5,14 @@ use Rattle.float.specs.Ops.{◌⊗◌}
 use Rattle.solver.specs.declared.types.DensityInitialization.TheVariants.{Vapor, Liquid}
 use Rattle.solver.specs.declared.types.Values.{Values}
 use Rattle.solver.specs.declared.types.Refusal.TheVariants.{BothPhasesFailed}
-use Rattle.solver.specs.declared.types.Answer.{Answer}
-use Rattle.solver.specs.declared.types.Answer.TheVariants.{Found, Refused}
+use Rattle.solver.specs.Answer.{Answer}
+use Rattle.std.specs.Prelude.{Ok, Err}
 use Rattle.solver.specs.Search.{Search, done, ask, refuse, tested, bind, potential}
 use Rattle.solver_density.specs.Density.{density_iteration}
 
 -- "equal potentials give liquid"
 unfoldable pub lower_potential : (liquid vapor : Values) (μl μv : Float) → Answer
-lower_potential liquid vapor μl μv = cond (lt μv μl) (Found vapor) (Found liquid)
+lower_potential liquid vapor μl μv = cond (lt μv μl) (Ok vapor) (Ok liquid)
 
 module _ (t : Float) where
   unfoldable pub vapor_potential : (liquid vapor : Values) (μl : Float) → Search
@@ -23,10 +23,10 @@ module _ (t : Float) where
 
   -- both phases searched, each found or failed
   unfoldable pub stable_phase : (liquid vapor : Answer) → Search
-  stable_phase (Found l) (Found v) = potentials l v
-  stable_phase (Found l) (Refused r) = done (Found l)
-  stable_phase (Refused q) (Found v) = done (Found v)
-  stable_phase (Refused q) (Refused r) = refuse BothPhasesFailed
+  stable_phase (Ok l) (Ok v) = potentials l v
+  stable_phase (Ok l) (Err r) = done (Ok l)
+  stable_phase (Err q) (Ok v) = done (Ok v)
+  stable_phase (Err q) (Err r) = refuse BothPhasesFailed
 
 module _ (maxdensity t p : Float) where
   unfoldable pub after_liquid : Answer → Search

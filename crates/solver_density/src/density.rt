@@ -22,7 +22,7 @@ pub fn found_density(rho: f64) -> Answer
         second: 0.0,
         third: 0.0,
     };
-    Answer::Found(found)
+    Ok(found)
 }
 
 fn start_of(maxdensity: f64, t: f64, p: f64, initial: DensityInitialization) -> f64
@@ -145,7 +145,7 @@ pub fn after_nearest(c: Conditions, way: Nearest, sp: Values) -> Answer
         Nearest::HighDensity => {
             if rho > 0.85 * maxdensity {
                 if below {
-                    return Answer::Refused(Refusal::IterationFailed);
+                    return Err(Refusal::IterationFailed);
                 }
                 return found_density(rho * 0.98);
             }
@@ -200,12 +200,12 @@ fn by_nearest(blend: Blend, c: Conditions, way: Nearest) -> Ran
     let evaluations = s.evaluations;
     let answer = s.answer;
     match answer {
-        Answer::Found(sp) => Ran {
+        Ok(sp) => Ran {
             answer: after_nearest(c, way, sp),
             evaluations,
         },
-        Answer::Refused(refusal) => Ran {
-            answer: Answer::Refused(refusal),
+        Err(refusal) => Ran {
+            answer: Err(refusal),
             evaluations,
         },
     }
@@ -219,12 +219,12 @@ fn by_vapor(blend: Blend, c: Conditions, way: Both, liquid: f64) -> Ran
     let evaluations = s.evaluations;
     let answer = s.answer;
     match answer {
-        Answer::Found(v) => Ran {
+        Ok(v) => Ran {
             answer: found_density(after_both(c, way, liquid, v)),
             evaluations,
         },
-        Answer::Refused(refusal) => Ran {
-            answer: Answer::Refused(refusal),
+        Err(refusal) => Ran {
+            answer: Err(refusal),
             evaluations,
         },
     }
@@ -237,7 +237,7 @@ fn by_both(blend: Blend, c: Conditions, way: Both) -> Ran
     let evaluations = s.evaluations;
     let answer = s.answer;
     match answer {
-        Answer::Found(liquid) => {
+        Ok(liquid) => {
             let v = by_vapor(blend, c, way, liquid.second);
             let after = v.answer;
             Ran {
@@ -245,8 +245,8 @@ fn by_both(blend: Blend, c: Conditions, way: Both) -> Ran
                 evaluations: evaluations + v.evaluations,
             }
         }
-        Answer::Refused(refusal) => Ran {
-            answer: Answer::Refused(refusal),
+        Err(refusal) => Ran {
+            answer: Err(refusal),
             evaluations,
         },
     }
@@ -268,7 +268,7 @@ fn unstable(blend: Blend, c: Conditions, rho: f64, error: f64) -> Ran
     let y = evaluations::p_dpdrho_d2pdrho2(blend, c.temperature, rho);
     if !all_finite(y) {
         return Ran {
-            answer: Answer::Refused(Refusal::NotFinite),
+            answer: Err(Refusal::NotFinite),
             evaluations: 1,
         };
     }
@@ -297,7 +297,7 @@ fn iterate(blend: Blend, c: Conditions, rounds: u64, start: f64) -> Ran
         match outcome {
             SlopeOutcome::NotFinite => {
                 return Ran {
-                    answer: Answer::Refused(Refusal::NotFinite),
+                    answer: Err(Refusal::NotFinite),
                     evaluations,
                 };
             }
@@ -316,13 +316,13 @@ fn iterate(blend: Blend, c: Conditions, rounds: u64, start: f64) -> Ran
                 evaluations += d.evaluations;
                 let answer = d.answer;
                 match answer {
-                    Answer::Found(next) => {
+                    Ok(next) => {
                         rho = next.first;
                         continue 'iteration;
                     }
-                    Answer::Refused(refusal) => {
+                    Err(refusal) => {
                         return Ran {
-                            answer: Answer::Refused(refusal),
+                            answer: Err(refusal),
                             evaluations,
                         };
                     }
@@ -331,7 +331,7 @@ fn iterate(blend: Blend, c: Conditions, rounds: u64, start: f64) -> Ran
         }
     }
     Ran {
-        answer: Answer::Refused(Refusal::NotConverged),
+        answer: Err(Refusal::NotConverged),
         evaluations,
     }
 }
@@ -342,7 +342,7 @@ pub fn density_search(blend: Blend, c: Conditions) -> Ran
     let start = c.start;
     if start <= 0.0 {
         return Ran {
-            answer: Answer::Refused(Refusal::StartNotPositive),
+            answer: Err(Refusal::StartNotPositive),
             evaluations: 0,
         };
     }
@@ -350,7 +350,7 @@ pub fn density_search(blend: Blend, c: Conditions) -> Ran
     let outcome = slope_round(c, start, y);
     match outcome {
         SlopeOutcome::NotFinite => Ran {
-            answer: Answer::Refused(Refusal::NotFinite),
+            answer: Err(Refusal::NotFinite),
             evaluations: 1,
         },
         SlopeOutcome::Converged(found) => Ran {

@@ -15,4 +15,4 @@ pub use crate::spinodal::{
     spinodal_round,
 };
 pub use crate::stable::{density_iteration_stable, lower_potential};
-pub use crate::types::{Both, Branch, Conditions, Detour, Nearest, Outcome, SlopeOutcome};
+pub use crate::types::{Both, Branch, Conditions, Detour, Nearest, SlopeOutcome};

@@ -7,10 +7,11 @@ ghost use Rattle.solver.specs.Evaluated.{evaluated};
 ghost use Rattle.solver_density.specs.Spinodal.{capped, spinodal_step, spinodal_outcome, branch_start, on_branch, branch_answer, pressure_spinodal, pressure_spinodal_branch};
 ghost use Rattle.solver_density.specs.Rounds.{finite3, tested_outcome, spinodal_round};
 
-use crate::types::{Branch, Outcome};
+use crate::types::Branch;
 use eos::Blend;
 use evaluations::Pressure;
-use solver::{Answer, Ran, Refusal, Values};
+use solver::{Answer, Progress, Ran, Refusal, Values};
+use std::ops::ControlFlow;
 
 // `delta`, kept within `most` in size
 pub fn cap(most: f64, delta: f64) -> f64
@@ -29,7 +30,7 @@ fn spinodal_step(maxdensity: f64, rho: f64, delta: f64) -> f64
     rho + float::min(delta_rho, maxdensity - rho)
 }
 
-fn spinodal_outcome(maxdensity: f64, rho: f64, y: Pressure) -> Outcome
+fn spinodal_outcome(maxdensity: f64, rho: f64, y: Pressure) -> Progress<f64>
     ensures { result ≡ spinodal_outcome maxdensity rho y }
 {
     let dpdrho = y.dp_drho;
@@ -40,25 +41,25 @@ fn spinodal_outcome(maxdensity: f64, rho: f64, y: Pressure) -> Outcome
             second: rho,
             third: d2pdrho2,
         };
-        return Outcome::End(Answer::Found(found));
+        return ControlFlow::Break(Ok(found));
     }
     let delta_rho = -dpdrho / d2pdrho2;
     if float::is_finite(delta_rho) {
-        return Outcome::Next(spinodal_step(maxdensity, rho, delta_rho));
+        return ControlFlow::Continue(spinodal_step(maxdensity, rho, delta_rho));
     }
-    Outcome::End(Answer::Refused(Refusal::NotConverged))
+    ControlFlow::Break(Err(Refusal::NotConverged))
 }
 
-fn tested_outcome(outcome: Outcome) -> Outcome
+fn tested_outcome(outcome: Progress<f64>) -> Progress<f64>
     ensures { result ≡ tested_outcome outcome }
 {
     match outcome {
-        Outcome::End(answer) => Outcome::End(answer),
-        Outcome::Next(rho) => {
+        ControlFlow::Break(answer) => ControlFlow::Break(answer),
+        ControlFlow::Continue(rho) => {
             if float::is_finite(rho) {
-                return Outcome::Next(rho);
+                return ControlFlow::Continue(rho);
             }
-            Outcome::End(Answer::Refused(Refusal::NotFinite))
+            ControlFlow::Break(Err(Refusal::NotFinite))
         }
     }
 }
@@ -77,13 +78,13 @@ pub fn all_finite(y: Pressure) -> bool
 }
 
 // a round at rho, with its tests for 27
-pub fn spinodal_round(maxdensity: f64, rho: f64, y: Pressure) -> Outcome
+pub fn spinodal_round(maxdensity: f64, rho: f64, y: Pressure) -> Progress<f64>
     ensures { result ≡ spinodal_round maxdensity rho y }
 {
     if all_finite(y) {
         return tested_outcome(spinodal_outcome(maxdensity, rho, y));
     }
-    Outcome::End(Answer::Refused(Refusal::NotFinite))
+    ControlFlow::Break(Err(Refusal::NotFinite))
 }
 
 pub fn spinodal_search(blend: Blend, maxdensity: f64, temperature: f64, start: f64) -> Ran
@@ -91,7 +92,7 @@ pub fn spinodal_search(blend: Blend, maxdensity: f64, temperature: f64, start: f
 {
     if start <= 0.0 {
         return Ran {
-            answer: Answer::Refused(Refusal::StartNotPositive),
+            answer: Err(Refusal::StartNotPositive),
             evaluations: 0,
         };
     }
@@ -104,19 +105,19 @@ pub fn spinodal_search(blend: Blend, maxdensity: f64, temperature: f64, start: f
         let y = evaluations::p_dpdrho_d2pdrho2(blend, temperature, rho);
         let outcome = spinodal_round(maxdensity, rho, y);
         match outcome {
-            Outcome::End(answer) => {
+            ControlFlow::Break(answer) => {
                 return Ran {
                     answer,
                     evaluations,
                 };
             }
-            Outcome::Next(next) => {
+            ControlFlow::Continue(next) => {
                 rho = next;
             }
         }
     }
     Ran {
-        answer: Answer::Refused(Refusal::NotConverged),
+        answer: Err(Refusal::NotConverged),
         evaluations,
     }
 }
@@ -148,9 +149,9 @@ pub fn branch_answer(branch: Branch, found: Values) -> Answer
             second: found.second,
             third: 0.0,
         };
-        return Answer::Found(kept);
+        return Ok(kept);
     }
-    Answer::Refused(Refusal::WrongBranch)
+    Err(Refusal::WrongBranch)
 }
 
 pub fn branch_search(blend: Blend, maxdensity: f64, temperature: f64, branch: Branch) -> Ran
@@ -165,12 +166,12 @@ pub fn branch_search(blend: Blend, maxdensity: f64, temperature: f64, branch: Br
     let evaluations = s.evaluations;
     let answer = s.answer;
     match answer {
-        Answer::Found(found) => Ran {
+        Ok(found) => Ran {
             answer: branch_answer(branch, found),
             evaluations,
         },
-        Answer::Refused(refusal) => Ran {
-            answer: Answer::Refused(refusal),
+        Err(refusal) => Ran {
+            answer: Err(refusal),
             evaluations,
         },
     }

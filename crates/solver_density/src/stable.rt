@@ -15,9 +15,9 @@ pub fn lower_potential(liquid: Values, vapor: Values, of_liquid: f64, of_vapor: 
     ensures { result ≡ lower_potential liquid vapor of_liquid of_vapor }
 {
     if of_liquid > of_vapor {
-        return Answer::Found(vapor);
+        return Ok(vapor);
     }
-    Answer::Found(liquid)
+    Ok(liquid)
 }
 
 fn potentials(blend: Blend, temperature: f64, liquid: Values, vapor: Values) -> Ran
@@ -26,14 +26,14 @@ fn potentials(blend: Blend, temperature: f64, liquid: Values, vapor: Values) -> 
     let of_liquid = evaluations::chemical_potential(blend, temperature, liquid.first);
     if !float::is_finite(of_liquid) {
         return Ran {
-            answer: Answer::Refused(Refusal::NotFinite),
+            answer: Err(Refusal::NotFinite),
             evaluations: 1,
         };
     }
     let of_vapor = evaluations::chemical_potential(blend, temperature, vapor.first);
     if !float::is_finite(of_vapor) {
         return Ran {
-            answer: Answer::Refused(Refusal::NotFinite),
+            answer: Err(Refusal::NotFinite),
             evaluations: 2,
         };
     }
@@ -48,20 +48,20 @@ fn stable_phase(blend: Blend, temperature: f64, liquid: Answer, vapor: Answer) -
     ensures { result ≡ run finite_of (evaluated blend) 0 (stable_phase temperature liquid vapor) }
 {
     match liquid {
-        Answer::Found(l) => match vapor {
-            Answer::Found(v) => potentials(blend, temperature, l, v),
-            Answer::Refused(_) => Ran {
-                answer: Answer::Found(l),
+        Ok(l) => match vapor {
+            Ok(v) => potentials(blend, temperature, l, v),
+            Err(_) => Ran {
+                answer: Ok(l),
                 evaluations: 0,
             },
         },
-        Answer::Refused(_) => match vapor {
-            Answer::Found(v) => Ran {
-                answer: Answer::Found(v),
+        Err(_) => match vapor {
+            Ok(v) => Ran {
+                answer: Ok(v),
                 evaluations: 0,
             },
-            Answer::Refused(_) => Ran {
-                answer: Answer::Refused(Refusal::BothPhasesFailed),
+            Err(_) => Ran {
+                answer: Err(Refusal::BothPhasesFailed),
                 evaluations: 0,
             },
         },

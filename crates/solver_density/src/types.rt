@@ -1,5 +1,4 @@
 // What the density and pressure spinodal searches pass between their functions.
-use solver::Answer;
 
 // What stays the same throughout one density search. `start` is the Rust's initial_density, as a number.
 #[derive(Clone, Copy)]
@@ -15,13 +14,6 @@ pub struct Conditions {
 pub enum Branch {
     Vapor,
     Liquid,
-}
-
-// What a round of a spinodal search comes to: its end, or the next density.
-#[derive(Clone, Copy)]
-pub enum Outcome {
-    End(Answer),
-    Next(f64),
 }
 
 // What a round of a density search comes to: a number that is not finite, the density looked for, the next density, or

@@ -1,2 +1,3 @@
 pub mod StateLaw
 pub mod Ranges
+pub mod Stepped

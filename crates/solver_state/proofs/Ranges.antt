@@ -12,28 +12,21 @@ use Rattle.solver.specs.Search.{Evaluator}
 use Rattle.solver.proofs.Ranges.{FitsBelow, Fits, Below, below, fits, status_fits_lem, ended_below, ended_fits}
 use Rattle.solver_density.specs.declared.types.Branch.{Branch}
 use Rattle.solver_density.specs.declared.types.Conditions.{Conditions}
-use Rattle.solver_step.specs.declared.types.SpinodalPlace.{SpinodalPlace}
-use Rattle.solver_step.specs.declared.types.SpinodalPlace.TheVariants as Spinodal
+use Rattle.solver.specs.Answer.{Progress}
+use Rattle.solver_step.specs.declared.types.SpinodalSpot.{SpinodalSpot}
+use Rattle.std.specs.declared.ops.ControlFlow.TheVariants.{Break, Continue}
 use Rattle.solver_step.specs.declared.types.DensitySpot.{DensitySpot}
-use Rattle.solver_step.specs.declared.types.DensityPlace.{DensityPlace}
-use Rattle.solver_step.specs.declared.types.DensityPlace.TheVariants as DensityPlace
+use Rattle.solver_step.specs.Phase.{Standing}
 use Rattle.solver_step.specs.declared.types.StableSpot.{StableSpot}
-use Rattle.solver_step.specs.declared.types.StablePlace.{StablePlace}
-use Rattle.solver_step.specs.declared.types.StablePlace.TheVariants as Stable
 use Rattle.solver_step.specs.DensityStep.{phase_answer}
 use Rattle.solver_step.specs.Stored.{spot_numbers, spinodal_numbers, spinodal_spot_by, spinodal_place_by, phase_by, density_spot_numbers, density_spot_by, density_numbers, density_place_by, staged, stable_numbers, stable_spot_by, stable_place_by}
 use Rattle.solver_step.proofs.Ranges.{nearest_below, both_below, asks, unstaged, potential_fits, spinodal_kept, branch_kept, density_kept, stable_kept, spinodal_start_fits, branch_begin_fits, density_begin_fits, stable_begin_fits}
-use Rattle.solver_critical_step.specs.declared.types.CriticalPlace.{CriticalPlace}
-use Rattle.solver_critical_step.specs.declared.types.CriticalPlace.TheVariants as Critical
+use Rattle.solver_critical_step.specs.declared.types.CriticalSpot.{CriticalSpot}
 use Rattle.solver_critical_step.specs.declared.types.SpinodalsSpot.{SpinodalsSpot}
-use Rattle.solver_critical_step.specs.declared.types.SpinodalsPlace.{SpinodalsPlace}
-use Rattle.solver_critical_step.specs.declared.types.SpinodalsPlace.TheVariants as Spinodals
 use Rattle.solver_critical_step.specs.Stored.{critical_spot_numbers, critical_numbers, critical_spot_by, critical_place_by, hkm_spot_by, spinodals_numbers, stability_spot_by, spinodals_spot_by, spinodals_place_by}
 use Rattle.solver_critical_step.proofs.Ranges.{asks_fits, critical_kept, critical_begin_fits, spinodals_kept, spinodals_begin_fits}
-use Rattle.solver_binary_step.specs.declared.types.TemperaturePlace.{TemperaturePlace}
-use Rattle.solver_binary_step.specs.declared.types.TemperaturePlace.TheVariants as Temperature
-use Rattle.solver_binary_step.specs.declared.types.PressurePlace.{PressurePlace}
-use Rattle.solver_binary_step.specs.declared.types.PressurePlace.TheVariants as Pressure
+use Rattle.solver_binary_step.specs.declared.types.TemperatureSpot.{TemperatureSpot}
+use Rattle.solver_binary_step.specs.declared.types.PressureSpot.{PressureSpot}
 use Rattle.solver_binary_step.specs.Stored.{temperature_numbers, temperature_spot_by, temperature_place_by, pressure_numbers, pressure_spot_by, pressure_place_by}
 use Rattle.solver_binary_step.proofs.Ranges as Binary
 use Rattle.solver_state.specs.declared.types.Job.{Job}
@@ -88,7 +81,7 @@ module _ (n : Numbers) (h : Fits n) where
       (cond-fits at (eqb n.counters.stage 3) _ _ (potential_fits 3 _ _ _ (omega arith)) (potential_fits 4 _ _ _ (omega arith)))))
     where
       at : StableSpot → Numbers
-      at s = stable_numbers (Stable.At s)
+      at s = stable_numbers (Continue s)
 
   critical_spot_read : (stage : ℕ) → stage < 5 → Fits (critical_spot_numbers stage (critical_spot_by n))
   unfolding critical_spot_by critical_spot_numbers hkm_spot_by
@@ -109,7 +102,7 @@ module _ (n : Numbers) (h : Fits n) where
       (asks_fits 3 0 0 _ _ _ (omega arith) (omega arith) (omega arith) b.rounds)))
     where
       asking : SpinodalsSpot → Numbers
-      asking x = spinodals_numbers (Spinodals.At x)
+      asking x = spinodals_numbers (Continue x)
 
 module _ (n : Numbers) (h : FitsBelow 200 n) where
   temperature_read : FitsBelow 200 (temperature_numbers (temperature_place_by n))
@@ -122,46 +115,46 @@ module _ (n : Numbers) (h : FitsBelow 200 n) where
 
 -- ---- a step
 module _ (ev : Evaluator) (s : State) (h : Fits s.numbers) where
-  density_fits : (c : Conditions) (p : DensityPlace) → density_place_by s.numbers ≡ p → Fits (density_step c ev p s).numbers
+  density_fits : (c : Conditions) (p : Standing DensitySpot) → density_place_by s.numbers ≡ p → Fits (density_step c ev p s).numbers
   unfolding density_step
-  density_fits c (DensityPlace.Ended a) e = h
-  density_fits c (DensityPlace.At x) e = density_kept c ev x (subst (λ (p : DensityPlace). Fits (density_numbers p)) e (density_read s.numbers h))
+  density_fits c (Break a) e = h
+  density_fits c (Continue x) e = density_kept c ev x (subst (λ (p : Standing DensitySpot). Fits (density_numbers p)) e (density_read s.numbers h))
 
-  stable_fits : (maxdensity t p : Float) (x : StablePlace) → stable_place_by s.numbers ≡ x → Fits (stable_step maxdensity t p ev x s).numbers
+  stable_fits : (maxdensity t p : Float) (x : Standing StableSpot) → stable_place_by s.numbers ≡ x → Fits (stable_step maxdensity t p ev x s).numbers
   unfolding stable_step
-  stable_fits maxdensity t p (Stable.Ended a) e = h
-  stable_fits maxdensity t p (Stable.At x) e = stable_kept maxdensity t p ev x (subst (λ (p : StablePlace). Fits (stable_numbers p)) e (stable_read s.numbers h))
+  stable_fits maxdensity t p (Break a) e = h
+  stable_fits maxdensity t p (Continue x) e = stable_kept maxdensity t p ev x (subst (λ (p : Standing StableSpot). Fits (stable_numbers p)) e (stable_read s.numbers h))
 
-  spinodal_fits : (maxdensity t : Float) (p : SpinodalPlace) → spinodal_place_by s.numbers ≡ p → Fits (spinodal_step maxdensity t ev p s).numbers
+  spinodal_fits : (maxdensity t : Float) (p : Progress SpinodalSpot) → spinodal_place_by s.numbers ≡ p → Fits (spinodal_step maxdensity t ev p s).numbers
   unfolding spinodal_step
-  spinodal_fits maxdensity t (Spinodal.Ended a) e = h
-  spinodal_fits maxdensity t (Spinodal.At x) e = spinodal_kept maxdensity t ev x (subst (λ (p : SpinodalPlace). Fits (spinodal_numbers p)) e (spinodal_read s.numbers h))
+  spinodal_fits maxdensity t (Break a) e = h
+  spinodal_fits maxdensity t (Continue x) e = spinodal_kept maxdensity t ev x (subst (λ (p : Progress SpinodalSpot). Fits (spinodal_numbers p)) e (spinodal_read s.numbers h))
 
-  branch_fits : (maxdensity t : Float) (branch : Branch) (p : SpinodalPlace) → spinodal_place_by s.numbers ≡ p → Fits (branch_step maxdensity t branch ev p s).numbers
+  branch_fits : (maxdensity t : Float) (branch : Branch) (p : Progress SpinodalSpot) → spinodal_place_by s.numbers ≡ p → Fits (branch_step maxdensity t branch ev p s).numbers
   unfolding branch_step
-  branch_fits maxdensity t branch (Spinodal.Ended a) e = h
-  branch_fits maxdensity t branch (Spinodal.At x) e = branch_kept maxdensity t ev x (subst (λ (p : SpinodalPlace). Fits (spinodal_numbers p)) e (spinodal_read s.numbers h)) branch
+  branch_fits maxdensity t branch (Break a) e = h
+  branch_fits maxdensity t branch (Continue x) e = branch_kept maxdensity t ev x (subst (λ (p : Progress SpinodalSpot). Fits (spinodal_numbers p)) e (spinodal_read s.numbers h)) branch
 
-  critical_fits : (maxdensity ρ : Float) (p : CriticalPlace) → critical_place_by s.numbers ≡ p → Fits (critical_step maxdensity ρ ev p s).numbers
+  critical_fits : (maxdensity ρ : Float) (p : Progress CriticalSpot) → critical_place_by s.numbers ≡ p → Fits (critical_step maxdensity ρ ev p s).numbers
   unfolding critical_step
-  critical_fits maxdensity ρ (Critical.Ended a) e = h
-  critical_fits maxdensity ρ (Critical.At x) e = critical_kept maxdensity ρ ev x (subst (λ (p : CriticalPlace). Fits (critical_numbers p)) e (critical_read s.numbers h))
+  critical_fits maxdensity ρ (Break a) e = h
+  critical_fits maxdensity ρ (Continue x) e = critical_kept maxdensity ρ ev x (subst (λ (p : Progress CriticalSpot). Fits (critical_numbers p)) e (critical_read s.numbers h))
 
-  spinodals_fits : (maxdensity t : Float) (p : SpinodalsPlace) → spinodals_place_by s.numbers ≡ p → Fits (spinodals_step maxdensity t ev p s).numbers
+  spinodals_fits : (maxdensity t : Float) (p : Progress SpinodalsSpot) → spinodals_place_by s.numbers ≡ p → Fits (spinodals_step maxdensity t ev p s).numbers
   unfolding spinodals_step
-  spinodals_fits maxdensity t (Spinodals.Ended a) e = h
-  spinodals_fits maxdensity t (Spinodals.At x) e = spinodals_kept maxdensity t ev x (subst (λ (p : SpinodalsPlace). Fits (spinodals_numbers p)) e (spinodals_read s.numbers h))
+  spinodals_fits maxdensity t (Break a) e = h
+  spinodals_fits maxdensity t (Continue x) e = spinodals_kept maxdensity t ev x (subst (λ (p : Progress SpinodalsSpot). Fits (spinodals_numbers p)) e (spinodals_read s.numbers h))
 
 module _ (ev : Evaluator) (s : State) (h : FitsBelow 200 s.numbers) where
-  temperature_fits_lem : (maxdensity t : Float) (p : TemperaturePlace) → temperature_place_by s.numbers ≡ p → FitsBelow 200 (temperature_step maxdensity t ev p s).numbers
+  temperature_fits_lem : (maxdensity t : Float) (p : Progress TemperatureSpot) → temperature_place_by s.numbers ≡ p → FitsBelow 200 (temperature_step maxdensity t ev p s).numbers
   unfolding temperature_step
-  temperature_fits_lem maxdensity t (Temperature.Ended a) e = h
-  temperature_fits_lem maxdensity t (Temperature.At x) e = Binary.temperature_kept maxdensity t ev x (subst (λ (p : TemperaturePlace). FitsBelow 200 (temperature_numbers p)) e (temperature_read s.numbers h))
+  temperature_fits_lem maxdensity t (Break a) e = h
+  temperature_fits_lem maxdensity t (Continue x) e = Binary.temperature_kept maxdensity t ev x (subst (λ (p : Progress TemperatureSpot). FitsBelow 200 (temperature_numbers p)) e (temperature_read s.numbers h))
 
-  pressure_fits : (maxdensity pressure : Float) (p : PressurePlace) → pressure_place_by s.numbers ≡ p → FitsBelow 200 (pressure_step maxdensity pressure ev p s).numbers
+  pressure_fits : (maxdensity pressure : Float) (p : Progress PressureSpot) → pressure_place_by s.numbers ≡ p → FitsBelow 200 (pressure_step maxdensity pressure ev p s).numbers
   unfolding pressure_step
-  pressure_fits maxdensity pressure (Pressure.Ended a) e = h
-  pressure_fits maxdensity pressure (Pressure.At x) e = Binary.pressure_kept maxdensity pressure ev x (subst (λ (p : PressurePlace). FitsBelow 200 (pressure_numbers p)) e (pressure_read s.numbers h))
+  pressure_fits maxdensity pressure (Break a) e = h
+  pressure_fits maxdensity pressure (Continue x) e = Binary.pressure_kept maxdensity pressure ev x (subst (λ (p : Progress PressureSpot). FitsBelow 200 (pressure_numbers p)) e (pressure_read s.numbers h))
 
 -- a step keeps the ranges
 pub ranges_kept : (job : Job) (ev : Evaluator) (s : State) → FitsBelow (most_rounds job) s.numbers → FitsBelow (most_rounds job) (step_of job ev s).numbers

@@ -9,16 +9,16 @@ use Rattle.solver.proofs.Steps.{moved, Stepped, stepped, settled}
 use Rattle.solver_density.specs.declared.types.Branch.{Branch}
 use Rattle.solver_density.specs.declared.types.Conditions.{Conditions}
 use Rattle.solver_density.proofs.Spans.{spinodal_30, branch_30, search_3101, stable_6204}
-use Rattle.solver_critical.specs.declared.types.Start.{Start}
+use Rattle.std.specs.declared.option.Option.{Option}
 use Rattle.solver_critical.specs.CriticalPoint.{start_density}
 use Rattle.solver_critical.proofs.Spans.{critical_150, spinodal_250}
 use Rattle.solver_binary.proofs.Spans.{temperature_200, pressure_200}
-use Rattle.solver_step.specs.declared.types.SpinodalPlace.{SpinodalPlace}
-use Rattle.solver_step.specs.declared.types.SpinodalPlace.TheVariants as Spinodal
-use Rattle.solver_step.specs.declared.types.DensityPlace.{DensityPlace}
-use Rattle.solver_step.specs.declared.types.DensityPlace.TheVariants as DensityPlace
-use Rattle.solver_step.specs.declared.types.StablePlace.{StablePlace}
-use Rattle.solver_step.specs.declared.types.StablePlace.TheVariants as Stable
+use Rattle.solver.specs.Answer.{Progress}
+use Rattle.solver_step.specs.declared.types.SpinodalSpot.{SpinodalSpot}
+use Rattle.std.specs.declared.ops.ControlFlow.TheVariants.{Break, Continue}
+use Rattle.solver_step.specs.Phase.{Standing}
+use Rattle.solver_step.specs.declared.types.DensitySpot.{DensitySpot}
+use Rattle.solver_step.specs.declared.types.StableSpot.{StableSpot}
 use Rattle.solver_step.specs.SpinodalStep.{spinodal_start, spinodal_left, branch_begin, branch_left}
 use Rattle.solver_step.specs.DensityStep.{density_left, density_at, density_begin}
 use Rattle.solver_step.specs.StableStep.{stable_left, stable_at, stable_begin}
@@ -27,20 +27,16 @@ use Rattle.solver_step.proofs.SpinodalLaw.{spinodal_law, spinodal_begins, branch
 use Rattle.solver_step.proofs.DensityLaw.{density_law, density_begins}
 use Rattle.solver_step.proofs.StableLaw.{stable_law, stable_begins}
 use Rattle.solver_step.proofs.StoredBack.{spinodal_back, density_back, stable_back}
-use Rattle.solver_critical_step.specs.declared.types.CriticalPlace.{CriticalPlace}
-use Rattle.solver_critical_step.specs.declared.types.CriticalPlace.TheVariants as Critical
-use Rattle.solver_critical_step.specs.declared.types.SpinodalsPlace.{SpinodalsPlace}
-use Rattle.solver_critical_step.specs.declared.types.SpinodalsPlace.TheVariants as Spinodals
+use Rattle.solver_critical_step.specs.declared.types.CriticalSpot.{CriticalSpot}
+use Rattle.solver_critical_step.specs.declared.types.SpinodalsSpot.{SpinodalsSpot}
 use Rattle.solver_critical_step.specs.CriticalStep.{critical_left, critical_at, critical_begin}
 use Rattle.solver_critical_step.specs.SpinodalsStep.{spinodals_left, spinodals_at, spinodals_begin}
 use Rattle.solver_critical_step.specs.Stored.{critical_numbers, critical_place_by, spinodals_numbers, spinodals_place_by}
 use Rattle.solver_critical_step.proofs.CriticalLaw.{critical_law, critical_begins}
 use Rattle.solver_critical_step.proofs.SpinodalsLaw.{spinodals_law, spinodals_begins}
 use Rattle.solver_critical_step.proofs.StoredBack.{critical_back, spinodals_back}
-use Rattle.solver_binary_step.specs.declared.types.TemperaturePlace.{TemperaturePlace}
-use Rattle.solver_binary_step.specs.declared.types.TemperaturePlace.TheVariants as Temperature
-use Rattle.solver_binary_step.specs.declared.types.PressurePlace.{PressurePlace}
-use Rattle.solver_binary_step.specs.declared.types.PressurePlace.TheVariants as Pressure
+use Rattle.solver_binary_step.specs.declared.types.TemperatureSpot.{TemperatureSpot}
+use Rattle.solver_binary_step.specs.declared.types.PressureSpot.{PressureSpot}
 use Rattle.solver_binary_step.specs.BinaryStep.{temperature_left, temperature_at, temperature_begin, pressure_left, pressure_at, pressure_begin}
 use Rattle.solver_binary_step.specs.Stored.{temperature_numbers, temperature_place_by, pressure_numbers, pressure_place_by}
 use Rattle.solver_binary_step.proofs.BinaryLaw.{temperature_law, temperature_begins, pressure_law, pressure_begins}
@@ -69,57 +65,57 @@ module _ (ev : Evaluator) (s : State) where
   abbrev d : Float
   d = s.latest
 
-  density_step_lem : (c : Conditions) (p : DensityPlace) → density_place_by s.numbers ≡ p → going (Density c) (density_step c ev p s) ≡ next_of finite_of ev (density_left c p) n d
+  density_step_lem : (c : Conditions) (p : Standing DensitySpot) → density_place_by s.numbers ≡ p → going (Density c) (density_step c ev p s) ≡ next_of finite_of ev (density_left c p) n d
   unfolding going left_of density_step density_left next_of
-  density_step_lem c (DensityPlace.Ended a) e = stays (density_left c) s _ (DensityPlace.Ended a) e
-  density_step_lem c (DensityPlace.At x) e = kept (density_left c) density_place_by density_numbers density_back n (density_at c x) _ _ (density_law c ev x n d)
+  density_step_lem c (Break a) e = stays (density_left c) s _ (Break a) e
+  density_step_lem c (Continue x) e = kept (density_left c) density_place_by density_numbers density_back n (density_at c x) _ _ (density_law c ev x n d)
 
-  stable_step_lem : (maxdensity t p : Float) (x : StablePlace) → stable_place_by s.numbers ≡ x
+  stable_step_lem : (maxdensity t p : Float) (x : Standing StableSpot) → stable_place_by s.numbers ≡ x
       → going (StableDensity maxdensity t p) (stable_step maxdensity t p ev x s) ≡ next_of finite_of ev (stable_left maxdensity t p x) n d
   unfolding going left_of stable_step stable_left next_of
-  stable_step_lem maxdensity t p (Stable.Ended a) e = stays (stable_left maxdensity t p) s _ (Stable.Ended a) e
-  stable_step_lem maxdensity t p (Stable.At x) e = kept (stable_left maxdensity t p) stable_place_by stable_numbers stable_back n (stable_at maxdensity t p x) _ _ (stable_law maxdensity t p ev x n d)
+  stable_step_lem maxdensity t p (Break a) e = stays (stable_left maxdensity t p) s _ (Break a) e
+  stable_step_lem maxdensity t p (Continue x) e = kept (stable_left maxdensity t p) stable_place_by stable_numbers stable_back n (stable_at maxdensity t p x) _ _ (stable_law maxdensity t p ev x n d)
 
   module _ (maxdensity t : Float) where
-    spinodal_step_lem : (ρ : Float) (p : SpinodalPlace) → spinodal_place_by s.numbers ≡ p
+    spinodal_step_lem : (ρ : Float) (p : Progress SpinodalSpot) → spinodal_place_by s.numbers ≡ p
         → going (PressureSpinodal maxdensity t ρ) (spinodal_step maxdensity t ev p s) ≡ next_of finite_of ev (spinodal_left maxdensity t p) n d
     unfolding going left_of spinodal_step spinodal_left next_of
-    spinodal_step_lem ρ (Spinodal.Ended a) e = stays (spinodal_left maxdensity t) s _ (Spinodal.Ended a) e
-    spinodal_step_lem ρ (Spinodal.At x) e = kept (spinodal_left maxdensity t) spinodal_place_by spinodal_numbers spinodal_back n x.rho _ _ (spinodal_law maxdensity t ev x n d)
+    spinodal_step_lem ρ (Break a) e = stays (spinodal_left maxdensity t) s _ (Break a) e
+    spinodal_step_lem ρ (Continue x) e = kept (spinodal_left maxdensity t) spinodal_place_by spinodal_numbers spinodal_back n x.rho _ _ (spinodal_law maxdensity t ev x n d)
 
-    branch_step_lem : (branch : Branch) (p : SpinodalPlace) → spinodal_place_by s.numbers ≡ p
+    branch_step_lem : (branch : Branch) (p : Progress SpinodalSpot) → spinodal_place_by s.numbers ≡ p
         → going (BranchSpinodal maxdensity t branch) (branch_step maxdensity t branch ev p s) ≡ next_of finite_of ev (branch_left maxdensity t branch p) n d
     unfolding going left_of branch_step branch_left next_of
-    branch_step_lem branch (Spinodal.Ended a) e = stays (branch_left maxdensity t branch) s _ (Spinodal.Ended a) e
-    branch_step_lem branch (Spinodal.At x) e = kept (branch_left maxdensity t branch) spinodal_place_by spinodal_numbers spinodal_back n x.rho _ _ (branch_law maxdensity t branch ev x n d)
+    branch_step_lem branch (Break a) e = stays (branch_left maxdensity t branch) s _ (Break a) e
+    branch_step_lem branch (Continue x) e = kept (branch_left maxdensity t branch) spinodal_place_by spinodal_numbers spinodal_back n x.rho _ _ (branch_law maxdensity t branch ev x n d)
 
   module _ (maxdensity : Float) where
-    critical_step_lem : (temperature density : Start) (p : CriticalPlace) → critical_place_by s.numbers ≡ p
+    critical_step_lem : (temperature density : Option Float) (p : Progress CriticalSpot) → critical_place_by s.numbers ≡ p
         → going (CriticalPoint maxdensity temperature density) (critical_step maxdensity (start_density maxdensity density) ev p s) ≡ next_of finite_of ev (critical_left maxdensity (start_density maxdensity density) p) n d
     unfolding going left_of critical_step critical_left next_of
-    critical_step_lem temperature density (Critical.Ended a) e = stays (critical_left maxdensity (start_density maxdensity density)) s _ (Critical.Ended a) e
-    critical_step_lem temperature density (Critical.At x) e =
+    critical_step_lem temperature density (Break a) e = stays (critical_left maxdensity (start_density maxdensity density)) s _ (Break a) e
+    critical_step_lem temperature density (Continue x) e =
         kept (critical_left maxdensity (start_density maxdensity density)) critical_place_by critical_numbers critical_back n (critical_at x) _ _ (critical_law maxdensity (start_density maxdensity density) ev x n d)
 
   module _ (maxdensity t : Float) where
-    spinodals_step_lem : (p : SpinodalsPlace) → spinodals_place_by s.numbers ≡ p
+    spinodals_step_lem : (p : Progress SpinodalsSpot) → spinodals_place_by s.numbers ≡ p
         → going (StabilitySpinodals maxdensity t) (spinodals_step maxdensity t ev p s) ≡ next_of finite_of ev (spinodals_left maxdensity t p) n d
     unfolding going left_of spinodals_step spinodals_left next_of
-    spinodals_step_lem (Spinodals.Ended a) e = stays (spinodals_left maxdensity t) s _ (Spinodals.Ended a) e
-    spinodals_step_lem (Spinodals.At x) e = kept (spinodals_left maxdensity t) spinodals_place_by spinodals_numbers spinodals_back n (spinodals_at x) _ _ (spinodals_law maxdensity t ev x n d)
+    spinodals_step_lem (Break a) e = stays (spinodals_left maxdensity t) s _ (Break a) e
+    spinodals_step_lem (Continue x) e = kept (spinodals_left maxdensity t) spinodals_place_by spinodals_numbers spinodals_back n (spinodals_at x) _ _ (spinodals_law maxdensity t ev x n d)
 
   module _ (maxdensity z0 z1 : Float) where
-    temperature_step_lem : (t : Float) (density : Start) (p : TemperaturePlace) → temperature_place_by s.numbers ≡ p
+    temperature_step_lem : (t : Float) (density : Option Float) (p : Progress TemperatureSpot) → temperature_place_by s.numbers ≡ p
         → going (CriticalPointBinaryT maxdensity z0 z1 t density) (temperature_step maxdensity t ev p s) ≡ next_of finite_of ev (temperature_left maxdensity t p) n d
     unfolding going left_of temperature_step temperature_left next_of
-    temperature_step_lem t density (Temperature.Ended a) e = stays (temperature_left maxdensity t) s _ (Temperature.Ended a) e
-    temperature_step_lem t density (Temperature.At x) e = kept (temperature_left maxdensity t) temperature_place_by temperature_numbers temperature_back n (temperature_at x) _ _ (temperature_law maxdensity t ev x n d)
+    temperature_step_lem t density (Break a) e = stays (temperature_left maxdensity t) s _ (Break a) e
+    temperature_step_lem t density (Continue x) e = kept (temperature_left maxdensity t) temperature_place_by temperature_numbers temperature_back n (temperature_at x) _ _ (temperature_law maxdensity t ev x n d)
 
-    pressure_step_lem : (pressure : Float) (temperature density : Start) (p : PressurePlace) → pressure_place_by s.numbers ≡ p
+    pressure_step_lem : (pressure : Float) (temperature density : Option Float) (p : Progress PressureSpot) → pressure_place_by s.numbers ≡ p
         → going (CriticalPointBinaryP maxdensity z0 z1 pressure temperature density) (pressure_step maxdensity pressure ev p s) ≡ next_of finite_of ev (pressure_left maxdensity pressure p) n d
     unfolding going left_of pressure_step pressure_left next_of
-    pressure_step_lem pressure temperature density (Pressure.Ended a) e = stays (pressure_left maxdensity pressure) s _ (Pressure.Ended a) e
-    pressure_step_lem pressure temperature density (Pressure.At x) e = kept (pressure_left maxdensity pressure) pressure_place_by pressure_numbers pressure_back n (pressure_at x) _ _ (pressure_law maxdensity pressure ev x n d)
+    pressure_step_lem pressure temperature density (Break a) e = stays (pressure_left maxdensity pressure) s _ (Break a) e
+    pressure_step_lem pressure temperature density (Continue x) e = kept (pressure_left maxdensity pressure) pressure_place_by pressure_numbers pressure_back n (pressure_at x) _ _ (pressure_law maxdensity pressure ev x n d)
 
 -- the step makes the evaluation that the search left asks for, with the tests that follow it
 pub step_law : (job : Job) (ev : Evaluator) (s : State) → going job (step_of job ev s) ≡ next finite_of ev (going job s)

@@ -11,27 +11,23 @@ use Rattle.solver_density.specs.Stable.{density_iteration_stable}
 use Rattle.solver_critical.specs.CriticalPoint.{start_density, critical_point}
 use Rattle.solver_critical.specs.Spinodal.{spinodal}
 use Rattle.solver_binary.specs.CriticalPointBinary.{critical_point_binary_t, critical_point_binary_p}
-use Rattle.solver_step.specs.declared.types.SpinodalPlace.{SpinodalPlace}
-use Rattle.solver_step.specs.declared.types.SpinodalPlace.TheVariants as Spinodal
-use Rattle.solver_step.specs.declared.types.DensityPlace.{DensityPlace}
-use Rattle.solver_step.specs.declared.types.DensityPlace.TheVariants as DensityPlace
-use Rattle.solver_step.specs.declared.types.StablePlace.{StablePlace}
-use Rattle.solver_step.specs.declared.types.StablePlace.TheVariants as Stable
+use Rattle.solver.specs.Answer.{Progress}
+use Rattle.solver_step.specs.declared.types.SpinodalSpot.{SpinodalSpot}
+use Rattle.std.specs.declared.ops.ControlFlow.TheVariants.{Break, Continue}
+use Rattle.solver_step.specs.Phase.{Standing}
+use Rattle.solver_step.specs.declared.types.DensitySpot.{DensitySpot}
+use Rattle.solver_step.specs.declared.types.StableSpot.{StableSpot}
 use Rattle.solver_step.specs.SpinodalStep.{spinodal_start, spinodal_left, spinodal_next, branch_begin, branch_left, branch_next}
 use Rattle.solver_step.specs.DensityStep.{density_left, density_at, density_next, density_begin}
 use Rattle.solver_step.specs.StableStep.{stable_left, stable_at, stable_next, stable_begin}
 use Rattle.solver_step.specs.Stored.{spinodal_numbers, spinodal_place_by, density_numbers, density_place_by, stable_numbers, stable_place_by}
-use Rattle.solver_critical_step.specs.declared.types.CriticalPlace.{CriticalPlace}
-use Rattle.solver_critical_step.specs.declared.types.CriticalPlace.TheVariants as Critical
-use Rattle.solver_critical_step.specs.declared.types.SpinodalsPlace.{SpinodalsPlace}
-use Rattle.solver_critical_step.specs.declared.types.SpinodalsPlace.TheVariants as Spinodals
+use Rattle.solver_critical_step.specs.declared.types.CriticalSpot.{CriticalSpot}
+use Rattle.solver_critical_step.specs.declared.types.SpinodalsSpot.{SpinodalsSpot}
 use Rattle.solver_critical_step.specs.CriticalStep.{critical_left, critical_at, critical_next, critical_begin}
 use Rattle.solver_critical_step.specs.SpinodalsStep.{spinodals_left, spinodals_at, spinodals_next, spinodals_begin}
 use Rattle.solver_critical_step.specs.Stored.{critical_numbers, critical_place_by, spinodals_numbers, spinodals_place_by}
-use Rattle.solver_binary_step.specs.declared.types.TemperaturePlace.{TemperaturePlace}
-use Rattle.solver_binary_step.specs.declared.types.TemperaturePlace.TheVariants as Temperature
-use Rattle.solver_binary_step.specs.declared.types.PressurePlace.{PressurePlace}
-use Rattle.solver_binary_step.specs.declared.types.PressurePlace.TheVariants as Pressure
+use Rattle.solver_binary_step.specs.declared.types.TemperatureSpot.{TemperatureSpot}
+use Rattle.solver_binary_step.specs.declared.types.PressureSpot.{PressureSpot}
 use Rattle.solver_binary_step.specs.BinaryStep.{temperature_left, temperature_at, temperature_next, temperature_begin, pressure_left, pressure_at, pressure_next, pressure_begin}
 use Rattle.solver_binary_step.specs.Stored.{temperature_numbers, temperature_place_by, pressure_numbers, pressure_place_by}
 use Rattle.solver_state.specs.declared.types.Job.{Job}
@@ -106,37 +102,37 @@ start_of job = record { numbers = begin_of job; evaluations = 0; latest = f0 }
 abbrev pub stepped_to : Numbers → Float → State → State
 stepped_to n ρ s = record { numbers = n; evaluations = s.evaluations + 1; latest = ρ }
 
-unfoldable pub density_step : Conditions → Evaluator → DensityPlace → State → State
-density_step c ev (DensityPlace.Ended a) s = s
-density_step c ev (DensityPlace.At x) s = stepped_to (density_numbers (density_next c ev x)) (density_at c x) s
+unfoldable pub density_step : Conditions → Evaluator → Standing DensitySpot → State → State
+density_step c ev (Break a) s = s
+density_step c ev (Continue x) s = stepped_to (density_numbers (density_next c ev x)) (density_at c x) s
 
-unfoldable pub stable_step : (maxdensity t p : Float) → Evaluator → StablePlace → State → State
-stable_step maxdensity t p ev (Stable.Ended a) s = s
-stable_step maxdensity t p ev (Stable.At x) s = stepped_to (stable_numbers (stable_next maxdensity t p ev x)) (stable_at maxdensity t p x) s
+unfoldable pub stable_step : (maxdensity t p : Float) → Evaluator → Standing StableSpot → State → State
+stable_step maxdensity t p ev (Break a) s = s
+stable_step maxdensity t p ev (Continue x) s = stepped_to (stable_numbers (stable_next maxdensity t p ev x)) (stable_at maxdensity t p x) s
 
-unfoldable pub spinodal_step : (maxdensity t : Float) → Evaluator → SpinodalPlace → State → State
-spinodal_step maxdensity t ev (Spinodal.Ended a) s = s
-spinodal_step maxdensity t ev (Spinodal.At x) s = stepped_to (spinodal_numbers (spinodal_next maxdensity t ev x)) x.rho s
+unfoldable pub spinodal_step : (maxdensity t : Float) → Evaluator → Progress SpinodalSpot → State → State
+spinodal_step maxdensity t ev (Break a) s = s
+spinodal_step maxdensity t ev (Continue x) s = stepped_to (spinodal_numbers (spinodal_next maxdensity t ev x)) x.rho s
 
-unfoldable pub branch_step : (maxdensity t : Float) → Branch → Evaluator → SpinodalPlace → State → State
-branch_step maxdensity t branch ev (Spinodal.Ended a) s = s
-branch_step maxdensity t branch ev (Spinodal.At x) s = stepped_to (spinodal_numbers (branch_next maxdensity t branch ev x)) x.rho s
+unfoldable pub branch_step : (maxdensity t : Float) → Branch → Evaluator → Progress SpinodalSpot → State → State
+branch_step maxdensity t branch ev (Break a) s = s
+branch_step maxdensity t branch ev (Continue x) s = stepped_to (spinodal_numbers (branch_next maxdensity t branch ev x)) x.rho s
 
-unfoldable pub critical_step : (maxdensity ρ : Float) → Evaluator → CriticalPlace → State → State
-critical_step maxdensity ρ ev (Critical.Ended a) s = s
-critical_step maxdensity ρ ev (Critical.At x) s = stepped_to (critical_numbers (critical_next maxdensity ρ ev x)) (critical_at x) s
+unfoldable pub critical_step : (maxdensity ρ : Float) → Evaluator → Progress CriticalSpot → State → State
+critical_step maxdensity ρ ev (Break a) s = s
+critical_step maxdensity ρ ev (Continue x) s = stepped_to (critical_numbers (critical_next maxdensity ρ ev x)) (critical_at x) s
 
-unfoldable pub spinodals_step : (maxdensity t : Float) → Evaluator → SpinodalsPlace → State → State
-spinodals_step maxdensity t ev (Spinodals.Ended a) s = s
-spinodals_step maxdensity t ev (Spinodals.At x) s = stepped_to (spinodals_numbers (spinodals_next maxdensity t ev x)) (spinodals_at x) s
+unfoldable pub spinodals_step : (maxdensity t : Float) → Evaluator → Progress SpinodalsSpot → State → State
+spinodals_step maxdensity t ev (Break a) s = s
+spinodals_step maxdensity t ev (Continue x) s = stepped_to (spinodals_numbers (spinodals_next maxdensity t ev x)) (spinodals_at x) s
 
-unfoldable pub temperature_step : (maxdensity t : Float) → Evaluator → TemperaturePlace → State → State
-temperature_step maxdensity t ev (Temperature.Ended a) s = s
-temperature_step maxdensity t ev (Temperature.At x) s = stepped_to (temperature_numbers (temperature_next maxdensity t ev x)) (temperature_at x) s
+unfoldable pub temperature_step : (maxdensity t : Float) → Evaluator → Progress TemperatureSpot → State → State
+temperature_step maxdensity t ev (Break a) s = s
+temperature_step maxdensity t ev (Continue x) s = stepped_to (temperature_numbers (temperature_next maxdensity t ev x)) (temperature_at x) s
 
-unfoldable pub pressure_step : (maxdensity pressure : Float) → Evaluator → PressurePlace → State → State
-pressure_step maxdensity pressure ev (Pressure.Ended a) s = s
-pressure_step maxdensity pressure ev (Pressure.At x) s = stepped_to (pressure_numbers (pressure_next maxdensity pressure ev x)) (pressure_at x) s
+unfoldable pub pressure_step : (maxdensity pressure : Float) → Evaluator → Progress PressureSpot → State → State
+pressure_step maxdensity pressure ev (Break a) s = s
+pressure_step maxdensity pressure ev (Continue x) s = stepped_to (pressure_numbers (pressure_next maxdensity pressure ev x)) (pressure_at x) s
 
 unfoldable pub step_of : Job → Evaluator → State → State
 step_of (Density c) ev s = density_step c ev (density_place_by s.numbers) s

@@ -1,18 +1,14 @@
 // A search of any kind under way: its first state and its step.
 ghost use Rattle.std.specs.Prelude.{◌≡◌, ◌<◌};
+ghost use Rattle.std.specs.ControlFlow.{MatchControlFlow};
 ghost use Rattle.solver.specs.Evaluated.{evaluated};
-ghost use Rattle.solver_step.specs.Stored.{density_place_by, stable_place_by, spinodal_place_by};
-ghost use Rattle.solver_critical_step.specs.Stored.{critical_place_by, spinodals_place_by};
-ghost use Rattle.solver_binary_step.specs.Stored.{temperature_place_by, pressure_place_by};
-ghost use Rattle.solver_state.specs.State.{begin_of, start_of, density_step, stable_step, spinodal_step, branch_step, critical_step, spinodals_step, temperature_step, pressure_step, step_of};
+ghost use Rattle.solver_state.specs.State.{begin_of, start_of, stepped_to, step_of};
 
 use crate::types::{Job, State};
 use eos::Blend;
 use solver::Numbers;
-use solver_binary_step::{PressurePlace, TemperaturePlace};
-use solver_critical_step::{CriticalPlace, SpinodalsPlace};
 use solver_density::{Branch, Conditions};
-use solver_step::{DensityPlace, SpinodalPlace, StablePlace};
+use std::ops::ControlFlow;
 
 fn begin(job: Job) -> Numbers
     ensures { result ≡ begin_of job }
@@ -94,150 +90,26 @@ pub fn start(job: Job) -> State
     }
 }
 
-fn density_step(blend: Blend, c: Conditions, state: State) -> State
-    requires { state.evaluations < 0xffff_ffff_ffff_ffff }
-    ensures { result ≡ density_step c (evaluated blend) (density_place_by state.numbers) state }
+// A search stepped from where it stands: the same state at its end, else what `go` makes of the spot, the numbers that its one evaluation
+// leads to and the density of that.
+fn stepped<E: Drop, S, F: FnOnce(S) -> (Numbers, f64)>(
+    place: ControlFlow<E, S>,
+    state: State,
+    go: F,
+) -> State
+where
+    F: Drop,
+    requires { (state.evaluations < 0xffff_ffff_ffff_ffff) × F.IsAlwaysCallable go }
+    ensures { MatchControlFlow place (λ spot. (y : _) × F.post go spot y × (result ≡ stepped_to y.0 y.1 state)) (λ _. result ≡ state) }
 {
-    let numbers = state.numbers;
-    let place = solver_step::density_place_by(numbers);
     match place {
-        DensityPlace::Ended(_) => state,
-        DensityPlace::At(spot) => State {
-            numbers: solver_step::density_numbers(solver_step::density_next(blend, c, spot)),
-            evaluations: state.evaluations + 1,
-            latest: solver_step::density_at(c, spot),
-        },
-    }
-}
-
-fn stable_step(blend: Blend, maxdensity: f64, t: f64, p: f64, state: State) -> State
-    requires { state.evaluations < 0xffff_ffff_ffff_ffff }
-    ensures { result ≡ stable_step maxdensity t p (evaluated blend) (stable_place_by state.numbers) state }
-{
-    let numbers = state.numbers;
-    let place = solver_step::stable_place_by(numbers);
-    match place {
-        StablePlace::Ended(_) => state,
-        StablePlace::At(spot) => {
-            let next = solver_step::stable_next(blend, maxdensity, t, p, spot);
+        ControlFlow::Break(_) => state,
+        ControlFlow::Continue(spot) => {
+            let (numbers, latest) = go(spot);
             State {
-                numbers: solver_step::stable_numbers(next),
+                numbers,
                 evaluations: state.evaluations + 1,
-                latest: solver_step::stable_at(maxdensity, t, p, spot),
-            }
-        }
-    }
-}
-
-fn spinodal_step(blend: Blend, maxdensity: f64, t: f64, state: State) -> State
-    requires { state.evaluations < 0xffff_ffff_ffff_ffff }
-    ensures { result ≡ spinodal_step maxdensity t (evaluated blend) (spinodal_place_by state.numbers) state }
-{
-    let numbers = state.numbers;
-    let place = solver_step::spinodal_place_by(numbers);
-    match place {
-        SpinodalPlace::Ended(_) => state,
-        SpinodalPlace::At(spot) => {
-            let next = solver_step::spinodal_next(blend, maxdensity, t, spot);
-            State {
-                numbers: solver_step::spinodal_numbers(next),
-                evaluations: state.evaluations + 1,
-                latest: spot.rho,
-            }
-        }
-    }
-}
-
-fn branch_step(blend: Blend, maxdensity: f64, t: f64, branch: Branch, state: State) -> State
-    requires { state.evaluations < 0xffff_ffff_ffff_ffff }
-    ensures { result ≡ branch_step maxdensity t branch (evaluated blend) (spinodal_place_by state.numbers) state }
-{
-    let numbers = state.numbers;
-    let place = solver_step::spinodal_place_by(numbers);
-    match place {
-        SpinodalPlace::Ended(_) => state,
-        SpinodalPlace::At(spot) => {
-            let next = solver_step::branch_next(blend, maxdensity, t, branch, spot);
-            State {
-                numbers: solver_step::spinodal_numbers(next),
-                evaluations: state.evaluations + 1,
-                latest: spot.rho,
-            }
-        }
-    }
-}
-
-fn critical_step(blend: Blend, maxdensity: f64, rho: f64, state: State) -> State
-    requires { state.evaluations < 0xffff_ffff_ffff_ffff }
-    ensures { result ≡ critical_step maxdensity rho (evaluated blend) (critical_place_by state.numbers) state }
-{
-    let numbers = state.numbers;
-    let place = solver_critical_step::critical_place_by(numbers);
-    match place {
-        CriticalPlace::Ended(_) => state,
-        CriticalPlace::At(spot) => {
-            let next = solver_critical_step::critical_next(blend, maxdensity, rho, spot);
-            State {
-                numbers: solver_critical_step::critical_numbers(next),
-                evaluations: state.evaluations + 1,
-                latest: solver_critical_step::critical_at(spot),
-            }
-        }
-    }
-}
-
-fn spinodals_step(blend: Blend, maxdensity: f64, t: f64, state: State) -> State
-    requires { state.evaluations < 0xffff_ffff_ffff_ffff }
-    ensures { result ≡ spinodals_step maxdensity t (evaluated blend) (spinodals_place_by state.numbers) state }
-{
-    let numbers = state.numbers;
-    let place = solver_critical_step::spinodals_place_by(numbers);
-    match place {
-        SpinodalsPlace::Ended(_) => state,
-        SpinodalsPlace::At(spot) => {
-            let next = solver_critical_step::spinodals_next(blend, maxdensity, t, spot);
-            State {
-                numbers: solver_critical_step::spinodals_numbers(next),
-                evaluations: state.evaluations + 1,
-                latest: solver_critical_step::spinodals_at(spot),
-            }
-        }
-    }
-}
-
-fn temperature_step(blend: Blend, maxdensity: f64, t: f64, state: State) -> State
-    requires { state.evaluations < 0xffff_ffff_ffff_ffff }
-    ensures { result ≡ temperature_step maxdensity t (evaluated blend) (temperature_place_by state.numbers) state }
-{
-    let numbers = state.numbers;
-    let place = solver_binary_step::temperature_place_by(numbers);
-    match place {
-        TemperaturePlace::Ended(_) => state,
-        TemperaturePlace::At(spot) => {
-            let next = solver_binary_step::temperature_next(blend, maxdensity, t, spot);
-            State {
-                numbers: solver_binary_step::temperature_numbers(next),
-                evaluations: state.evaluations + 1,
-                latest: solver_binary_step::temperature_at(spot),
-            }
-        }
-    }
-}
-
-fn pressure_step(blend: Blend, maxdensity: f64, pressure: f64, state: State) -> State
-    requires { state.evaluations < 0xffff_ffff_ffff_ffff }
-    ensures { result ≡ pressure_step maxdensity pressure (evaluated blend) (pressure_place_by state.numbers) state }
-{
-    let numbers = state.numbers;
-    let place = solver_binary_step::pressure_place_by(numbers);
-    match place {
-        PressurePlace::Ended(_) => state,
-        PressurePlace::At(spot) => {
-            let next = solver_binary_step::pressure_next(blend, maxdensity, pressure, spot);
-            State {
-                numbers: solver_binary_step::pressure_numbers(next),
-                evaluations: state.evaluations + 1,
-                latest: solver_binary_step::pressure_at(spot),
+                latest,
             }
         }
     }
@@ -248,42 +120,97 @@ pub fn step(blend: Blend, job: Job, state: State) -> State
     requires { state.evaluations < 0xffff_ffff_ffff_ffff }
     ensures { result ≡ step_of job (evaluated blend) state }
 {
+    let numbers = state.numbers;
     match job {
-        Job::Density(c) => density_step(blend, c, state),
+        Job::Density(c) => stepped(solver_step::density_place_by(numbers), state, |spot| {
+            let next = solver_step::density_next(blend, c, spot);
+            (
+                solver_step::density_numbers(next),
+                solver_step::density_at(c, spot),
+            )
+        }),
         Job::StableDensity {
             maxdensity,
             temperature,
             pressure,
-        } => stable_step(blend, maxdensity, temperature, pressure, state),
+        } => stepped(solver_step::stable_place_by(numbers), state, |spot| {
+            let next = solver_step::stable_next(blend, maxdensity, temperature, pressure, spot);
+            let latest = solver_step::stable_at(maxdensity, temperature, pressure, spot);
+            (solver_step::stable_numbers(next), latest)
+        }),
         Job::PressureSpinodal {
             maxdensity,
             temperature,
             start: _,
-        } => spinodal_step(blend, maxdensity, temperature, state),
+        } => stepped(solver_step::spinodal_place_by(numbers), state, |spot| {
+            let next = solver_step::spinodal_next(blend, maxdensity, temperature, spot);
+            (solver_step::spinodal_numbers(next), spot.rho)
+        }),
         Job::BranchSpinodal {
             maxdensity,
             temperature,
             branch,
-        } => branch_step(blend, maxdensity, temperature, branch, state),
+        } => stepped(solver_step::spinodal_place_by(numbers), state, |spot| {
+            let next = solver_step::branch_next(blend, maxdensity, temperature, branch, spot);
+            (solver_step::spinodal_numbers(next), spot.rho)
+        }),
         Job::CriticalPoint {
             maxdensity,
             temperature: _,
             density,
-        } => {
-            let rho = solver_critical::start_density(maxdensity, density);
-            critical_step(blend, maxdensity, rho, state)
-        }
+        } => stepped(
+            solver_critical_step::critical_place_by(numbers),
+            state,
+            |spot| {
+                let rho = solver_critical::start_density(maxdensity, density);
+                let next = solver_critical_step::critical_next(blend, maxdensity, rho, spot);
+                (
+                    solver_critical_step::critical_numbers(next),
+                    solver_critical_step::critical_at(spot),
+                )
+            },
+        ),
         Job::StabilitySpinodals {
             maxdensity,
             temperature,
-        } => spinodals_step(blend, maxdensity, temperature, state),
+        } => stepped(
+            solver_critical_step::spinodals_place_by(numbers),
+            state,
+            |spot| {
+                let next = solver_critical_step::spinodals_next(
+                    blend,
+                    maxdensity,
+                    temperature,
+                    spot,
+                );
+                (
+                    solver_critical_step::spinodals_numbers(next),
+                    solver_critical_step::spinodals_at(spot),
+                )
+            },
+        ),
         Job::CriticalPointBinaryT {
             maxdensity,
             z0: _,
             z1: _,
             temperature,
             density: _,
-        } => temperature_step(blend, maxdensity, temperature, state),
+        } => stepped(
+            solver_binary_step::temperature_place_by(numbers),
+            state,
+            |spot| {
+                let next = solver_binary_step::temperature_next(
+                    blend,
+                    maxdensity,
+                    temperature,
+                    spot,
+                );
+                (
+                    solver_binary_step::temperature_numbers(next),
+                    solver_binary_step::temperature_at(spot),
+                )
+            },
+        ),
         Job::CriticalPointBinaryP {
             maxdensity,
             z0: _,
@@ -291,6 +218,16 @@ pub fn step(blend: Blend, job: Job, state: State) -> State
             pressure,
             temperature: _,
             density: _,
-        } => pressure_step(blend, maxdensity, pressure, state),
+        } => stepped(
+            solver_binary_step::pressure_place_by(numbers),
+            state,
+            |spot| {
+                let next = solver_binary_step::pressure_next(blend, maxdensity, pressure, spot);
+                (
+                    solver_binary_step::pressure_numbers(next),
+                    solver_binary_step::pressure_at(spot),
+                )
+            },
+        ),
     }
 }

@@ -1,6 +1,5 @@
 // A job's search, and a search under way as a board keeps it.
 use solver::Numbers;
-use solver_critical::Start;
 use solver_density::{Branch, Conditions};
 
 // What the search of each kind works with beside the blend, z0 and z1 being the fractions.
@@ -24,8 +23,8 @@ pub enum Job {
     },
     CriticalPoint {
         maxdensity: f64,
-        temperature: Start,
-        density: Start,
+        temperature: Option<f64>,
+        density: Option<f64>,
     },
     StabilitySpinodals {
         maxdensity: f64,
@@ -36,15 +35,15 @@ pub enum Job {
         z0: f64,
         z1: f64,
         temperature: f64,
-        density: Start,
+        density: Option<f64>,
     },
     CriticalPointBinaryP {
         maxdensity: f64,
         z0: f64,
         z1: f64,
         pressure: f64,
-        temperature: Start,
-        density: Start,
+        temperature: Option<f64>,
+        density: Option<f64>,
     },
 }
 

@@ -7,7 +7,7 @@ use Rattle.float.specs.Ops.{f0}
 use Rattle.float.specs.Sign.{finite_of}
 use Rattle.evaluations.specs.declared.types.Pressure.{Pressure}
 use Rattle.solver.specs.declared.types.Refusal.TheVariants.{StartNotPositive, NotFinite}
-use Rattle.solver.specs.declared.types.Answer.{Answer}
+use Rattle.solver.specs.Answer.{Answer}
 use Rattle.solver.specs.Search.{Evaluator, Search, done, refuse, bind, on_found, and_then, settle, next_of, slope, curvature}
 use Rattle.solver.proofs.Steps.{settle_bind, moved, next_bind, settled}
 use Rattle.solver_density.specs.declared.types.Branch.TheVariants.{Liquid, Vapor}
@@ -22,13 +22,13 @@ use Rattle.solver_density.specs.Spinodal.{tested3, pressure_spinodal, pressure_s
 use Rattle.solver_density.specs.Density.{density, corrected, detour_of, after_nearest, after_both, vapor, detour, unstable, density_from, first_round, density_search}
 use Rattle.solver_density.specs.Rounds.{finite3}
 use Rattle.solver_density.proofs.Settles.{tests3, slope_led, slope_led_lem}
-use Rattle.solver_step.specs.declared.types.SpinodalPlace.{SpinodalPlace}
-use Rattle.solver_step.specs.declared.types.SpinodalPlace.TheVariants as Spinodal
-use Rattle.solver_step.specs.declared.types.Phase.TheVariants.{Failed}
+use Rattle.solver.specs.Answer.{Progress}
+use Rattle.solver_step.specs.declared.types.SpinodalSpot.{SpinodalSpot}
+use Rattle.std.specs.declared.ops.ControlFlow.TheVariants.{Break, Continue}
+use Rattle.std.specs.Prelude.{Ok, Err}
 use Rattle.solver_step.specs.declared.types.DensitySpot.{DensitySpot}
 use Rattle.solver_step.specs.declared.types.DensitySpot.TheVariants.{First, Slope, Curvature, NearestSpinodal, LiquidSpinodal, VaporSpinodal}
-use Rattle.solver_step.specs.declared.types.DensityPlace.{DensityPlace}
-use Rattle.solver_step.specs.declared.types.DensityPlace.TheVariants.{Ended, At}
+use Rattle.solver_step.specs.Phase.{Phase, Standing}
 use Rattle.solver_step.specs.SpinodalStep.{spinodal_start, resume_spinodal, spinodal_left, branch_begin, resume_branch, branch_left}
 use Rattle.solver_step.specs.DensityStep.{phase_answer, slope_at, arrived_at, slope_on, go_on, resume_density, density_left, density_at, first_on, nearest_on, vapor_on, liquid_on, detour_at, curvature_on, density_next, density_begin}
 use Rattle.solver_step.proofs.SpinodalLaw.{spinodal_law, spinodal_begins, spinodal_asks2, branch_law, branch_begins, branch_asks2}
@@ -47,7 +47,7 @@ next_bind2 ev t f g n d u ρ e =
     ∙ ap (moved n ρ) (settle_bind finite_of (bind u f) g)
 
 module _ (c : Conditions) where
-  abbrev left : DensityPlace → Search
+  abbrev left : Standing DensitySpot → Search
   left = density_left c
 
   slope_at_lem : (n : ℕ) (ρ : Float) → left (slope_at n ρ) ≡ settled (density_from c n ρ)
@@ -57,8 +57,8 @@ module _ (c : Conditions) where
 
   arrived_at_lem : (n : ℕ) (a : Answer) → left (arrived_at n a) ≡ settled (on_found (go_on c n) a)
   unfolding density_left phase_answer arrived_at settle on_found
-  arrived_at_lem n (Answer.Found v) = slope_at_lem n v.first
-  arrived_at_lem n (Answer.Refused r) = refl
+  arrived_at_lem n (Ok v) = slope_at_lem n v.first
+  arrived_at_lem n (Err r) = refl
 
   slope_on_lem : (n : ℕ) (ρ : Float) (o : SlopeOutcome) → left (slope_on n ρ o) ≡ settled (slope_led o (λ error. and_then (unstable c ρ error) (go_on c n)) (density_from c n))
   unfolding density_left resume_density phase_answer slope_on settle slope_led unstable bind
@@ -87,27 +87,27 @@ module _ (c : Conditions) where
   abbrev on : ℕ → Answer → Search
   on n = on_found (go_on c n)
 
-  nearest_on_lem : (n : ℕ) (way : Nearest) (p : SpinodalPlace) → left (nearest_on c n way p) ≡ settled (bind (bind (spinodal_left c.maxdensity c.temperature p) (by_nearest way)) (on n))
+  nearest_on_lem : (n : ℕ) (way : Nearest) (p : Progress SpinodalSpot) → left (nearest_on c n way p) ≡ settled (bind (bind (spinodal_left c.maxdensity c.temperature p) (by_nearest way)) (on n))
   unfolding density_left resume_density phase_answer nearest_on spinodal_left settle bind on_found
-  nearest_on_lem n way (Spinodal.Ended (Answer.Found sp)) = arrived_at_lem n (after_nearest c way sp)
-  nearest_on_lem n way (Spinodal.Ended (Answer.Refused r)) = refl
-  nearest_on_lem n way (Spinodal.At s) = sym (spinodal_asks2 c.maxdensity c.temperature s (by_nearest way) (on n))
+  nearest_on_lem n way (Break (Ok sp)) = arrived_at_lem n (after_nearest c way sp)
+  nearest_on_lem n way (Break (Err r)) = refl
+  nearest_on_lem n way (Continue s) = sym (spinodal_asks2 c.maxdensity c.temperature s (by_nearest way) (on n))
 
-  vapor_on_lem : (n : ℕ) (way : Both) (ρl : Float) (p : SpinodalPlace)
+  vapor_on_lem : (n : ℕ) (way : Both) (ρl : Float) (p : Progress SpinodalSpot)
       → left (vapor_on c n way ρl p) ≡ settled (bind (bind (branch_left c.maxdensity c.temperature Vapor p) (by_vapor way ρl)) (on n))
   unfolding density_left resume_density phase_answer vapor_on branch_left settle bind on_found
-  vapor_on_lem n way ρl (Spinodal.Ended (Answer.Found v)) = slope_at_lem n (after_both c way ρl v)
-  vapor_on_lem n way ρl (Spinodal.Ended (Answer.Refused r)) = refl
-  vapor_on_lem n way ρl (Spinodal.At s) = sym (branch_asks2 c.maxdensity c.temperature Vapor s (by_vapor way ρl) (on n))
+  vapor_on_lem n way ρl (Break (Ok v)) = slope_at_lem n (after_both c way ρl v)
+  vapor_on_lem n way ρl (Break (Err r)) = refl
+  vapor_on_lem n way ρl (Continue s) = sym (branch_asks2 c.maxdensity c.temperature Vapor s (by_vapor way ρl) (on n))
 
-  liquid_on_lem : (n : ℕ) (way : Both) (p : SpinodalPlace) → left (liquid_on c n way p) ≡ settled (bind (bind (branch_left c.maxdensity c.temperature Liquid p) (by_liquid way)) (on n))
+  liquid_on_lem : (n : ℕ) (way : Both) (p : Progress SpinodalSpot) → left (liquid_on c n way p) ≡ settled (bind (bind (branch_left c.maxdensity c.temperature Liquid p) (by_liquid way)) (on n))
   unfolding density_left resume_density phase_answer liquid_on branch_left settle bind on_found vapor
-  liquid_on_lem n way (Spinodal.Ended (Answer.Found l)) =
+  liquid_on_lem n way (Break (Ok l)) =
       vapor_on_lem n way l.second (branch_begin c.maxdensity Vapor)
       ∙ ap (λ (x : Search). settled (bind (bind x (by_vapor way l.second)) (on n))) (branch_begins c.maxdensity c.temperature Vapor)
       ∙ settle_bind2 (pressure_spinodal_branch c.maxdensity c.temperature Vapor) (by_vapor way l.second) (on n)
-  liquid_on_lem n way (Spinodal.Ended (Answer.Refused r)) = refl
-  liquid_on_lem n way (Spinodal.At s) = sym (branch_asks2 c.maxdensity c.temperature Liquid s (by_liquid way) (on n))
+  liquid_on_lem n way (Break (Err r)) = refl
+  liquid_on_lem n way (Continue s) = sym (branch_asks2 c.maxdensity c.temperature Liquid s (by_liquid way) (on n))
 
   detour_at_lem : (n : ℕ) (way : Detour) → left (detour_at c n way) ≡ settled (bind (detour c way) (on n))
   unfolding detour_at detour
@@ -131,7 +131,7 @@ module _ (c : Conditions) where
       way : Search
       way = detour c (detour_of c.maxdensity ρ error y.d2p_drho2)
 
-      go : (b : Bool) → left (cond b (detour_at c n (detour_of c.maxdensity ρ error y.d2p_drho2)) (Ended (Failed NotFinite))) ≡ settled (bind (cond b (settled way) (refuse NotFinite)) (on n))
+      go : (b : Bool) → left (cond b (detour_at c n (detour_of c.maxdensity ρ error y.d2p_drho2)) (Break (Err NotFinite))) ≡ settled (bind (cond b (settled way) (refuse NotFinite)) (on n))
       go true = detour_at_lem n (detour_of c.maxdensity ρ error y.d2p_drho2) ∙ sym (settle_bind finite_of way (on n))
       go false = refl
 
@@ -155,7 +155,7 @@ module _ (c : Conditions) where
   unfolding density_left resume_density phase_answer density_begin density_search settle first_round
   density_begins = go (le c.start f0)
     where
-      go : (b : Bool) → density_left c (cond b (Ended (Failed StartNotPositive)) (At First)) ≡ settled (cond b (refuse StartNotPositive) (first_round c 49))
+      go : (b : Bool) → density_left c (cond b (Break (Err StartNotPositive)) (Continue First)) ≡ settled (cond b (refuse StartNotPositive) (first_round c 49))
       go true = refl
       go false = refl
 

@@ -8,7 +8,7 @@ use Rattle.float.specs.Ops.{◌⊗◌, f0}
 use Rattle.float.specs.Sign.{finite_of}
 use Rattle.evaluations.specs.declared.types.Pressure.{Pressure}
 use Rattle.solver.specs.declared.types.Refusal.TheVariants.{StartNotPositive, NotFinite}
-use Rattle.solver.specs.declared.types.Answer.{Answer}
+use Rattle.solver.specs.Answer.{Answer}
 use Rattle.solver.specs.Answer.{status_of}
 use Rattle.solver.specs.Stored.{status_fits}
 use Rattle.solver.specs.Search.{Evaluator}
@@ -16,8 +16,8 @@ use Rattle.solver.proofs.Ranges.{Fits, below, fits, status_fits_lem, ended_fits}
 use Rattle.solver_density.specs.declared.types.Branch.{Branch}
 use Rattle.solver_density.specs.declared.types.Branch.TheVariants.{Liquid, Vapor}
 use Rattle.solver_density.specs.declared.types.Conditions.{Conditions}
-use Rattle.solver_density.specs.declared.types.Outcome.{Outcome}
-use Rattle.solver_density.specs.declared.types.Outcome.TheVariants.{End, Next}
+use Rattle.solver.specs.Answer.{Progress}
+use Rattle.std.specs.declared.ops.ControlFlow.TheVariants.{Break, Continue}
 use Rattle.solver_density.specs.declared.types.SlopeOutcome.{SlopeOutcome}
 use Rattle.solver_density.specs.declared.types.SlopeOutcome.TheVariants as Slope
 use Rattle.solver_density.specs.declared.types.Nearest.{Nearest}
@@ -30,56 +30,51 @@ use Rattle.solver_density.specs.Density.{detour_of, after_nearest}
 use Rattle.solver_density.specs.Rounds.{finite3}
 use Rattle.solver_density.specs.Spinodal.{branch_start}
 use Rattle.solver_step.specs.declared.types.SpinodalSpot.{SpinodalSpot}
-use Rattle.solver_step.specs.declared.types.SpinodalPlace.{SpinodalPlace}
-use Rattle.solver_step.specs.declared.types.SpinodalPlace.TheVariants as Spinodal
-use Rattle.solver_step.specs.declared.types.Phase.{Phase}
-use Rattle.solver_step.specs.declared.types.Phase.TheVariants.{Found, Failed}
+use Rattle.solver_step.specs.Phase.{Phase, Standing}
+use Rattle.std.specs.Prelude.{Ok, Err}
 use Rattle.solver_step.specs.declared.types.DensitySpot.{DensitySpot}
 use Rattle.solver_step.specs.declared.types.DensitySpot.TheVariants.{First, Slope, Curvature, NearestSpinodal, LiquidSpinodal, VaporSpinodal}
-use Rattle.solver_step.specs.declared.types.DensityPlace.{DensityPlace}
-use Rattle.solver_step.specs.declared.types.DensityPlace.TheVariants as Density
 use Rattle.solver_step.specs.declared.types.StableSpot.{StableSpot}
 use Rattle.solver_step.specs.declared.types.StableSpot.TheVariants.{LiquidSearch, VaporSearch, LiquidPotential, VaporPotential}
-use Rattle.solver_step.specs.declared.types.StablePlace.TheVariants as Stable
 use Rattle.solver_step.specs.SpinodalStep.{spinodal_on, spinodal_start, spinodal_next, branch_place, branch_begin, branch_next}
 use Rattle.solver_step.specs.DensityStep.{phase_answer, slope_at, arrived_at, slope_on, first_on, nearest_on, vapor_on, liquid_on, detour_at, curvature_on, density_next, density_begin}
 use Rattle.solver_step.specs.StableStep.{phases_on, vapor_search_on, liquid_potential_on, vapor_potential_on, of_liquid, of_vapor, liquid_search_on, stable_next, stable_begin}
 use Rattle.solver_step.specs.Stored.{nearest_number, both_number, spot_numbers, spinodal_numbers, density_spot_numbers, density_numbers, staged, potential_numbers, stable_numbers}
 
 -- ---- spinodal searches: fewer than 50 rounds left
-data Few : SpinodalPlace → Type 0 where
-  ended : {a : Answer} → Few (Spinodal.Ended a)
-  at : {s : SpinodalSpot} → s.rounds < 50 → Few (Spinodal.At s)
+data Few : Progress SpinodalSpot → Type 0 where
+  ended : {a : Answer} → Few (Break a)
+  at : {s : SpinodalSpot} → s.rounds < 50 → Few (Continue s)
 
-on_few : (n : ℕ) (o : Outcome) → n < 50 → Few (spinodal_on n o)
+on_few : (n : ℕ) (o : Progress Float) → n < 50 → Few (spinodal_on n o)
 unfolding spinodal_on
-on_few n (End a) h = Few.ended
-on_few zero (Next ρ) h = Few.ended
-on_few (suc n) (Next ρ) h = let l : n < 50 = omega arith in Few.at l
+on_few n (Break a) h = Few.ended
+on_few zero (Continue ρ) h = Few.ended
+on_few (suc n) (Continue ρ) h = let l : n < 50 = omega arith in Few.at l
 
 start_few : (ρ : Float) → Few (spinodal_start ρ)
 unfolding spinodal_start
 start_few ρ = go (le ρ f0)
   where
-    go : (b : Bool) → Few (cond b (Spinodal.Ended (Answer.Refused StartNotPositive)) (Spinodal.At (record { rounds = 29; rho = ρ })))
+    go : (b : Bool) → Few (cond b (Break (Err StartNotPositive)) (Continue (record { rounds = 29; rho = ρ })))
     go true = Few.ended
     go false = let l : 29 < 50 = omega arith in Few.at l
 
-branch_few : (branch : Branch) (p : SpinodalPlace) → Few p → Few (branch_place branch p)
+branch_few : (branch : Branch) (p : Progress SpinodalSpot) → Few p → Few (branch_place branch p)
 unfolding branch_place
-branch_few branch (Spinodal.Ended (Answer.Found v)) f = Few.ended
-branch_few branch (Spinodal.Ended (Answer.Refused r)) f = Few.ended
-branch_few branch (Spinodal.At s) f = f
+branch_few branch (Break (Ok v)) f = Few.ended
+branch_few branch (Break (Err r)) f = Few.ended
+branch_few branch (Continue s) f = f
 
 -- ---- density searches: fewer than 50 rounds left, and so in the spinodal search of a detour
-data Bounded : DensityPlace → Type 0 where
-  ended : {p : Phase} → Bounded (Density.Ended p)
-  first : Bounded (Density.At First)
-  slope : {n : ℕ} {ρ : Float} → n < 50 → Bounded (Density.At (Slope n ρ))
-  curvature : {n : ℕ} {ρ error : Float} → n < 50 → Bounded (Density.At (Curvature n ρ error))
-  nearest : {n : ℕ} {way : Nearest} {s : SpinodalSpot} → n < 50 → s.rounds < 50 → Bounded (Density.At (NearestSpinodal n way s))
-  in_liquid : {n : ℕ} {way : Both} {s : SpinodalSpot} → n < 50 → s.rounds < 50 → Bounded (Density.At (LiquidSpinodal n way s))
-  in_vapor : {n : ℕ} {way : Both} {ρl : Float} {s : SpinodalSpot} → n < 50 → s.rounds < 50 → Bounded (Density.At (VaporSpinodal n way ρl s))
+data Bounded : Standing DensitySpot → Type 0 where
+  ended : {p : Phase} → Bounded (Break p)
+  first : Bounded (Continue First)
+  slope : {n : ℕ} {ρ : Float} → n < 50 → Bounded (Continue (Slope n ρ))
+  curvature : {n : ℕ} {ρ error : Float} → n < 50 → Bounded (Continue (Curvature n ρ error))
+  nearest : {n : ℕ} {way : Nearest} {s : SpinodalSpot} → n < 50 → s.rounds < 50 → Bounded (Continue (NearestSpinodal n way s))
+  in_liquid : {n : ℕ} {way : Both} {s : SpinodalSpot} → n < 50 → s.rounds < 50 → Bounded (Continue (LiquidSpinodal n way s))
+  in_vapor : {n : ℕ} {way : Both} {ρl : Float} {s : SpinodalSpot} → n < 50 → s.rounds < 50 → Bounded (Continue (VaporSpinodal n way ρl s))
 
 slope_within : (n : ℕ) (ρ : Float) → n < 51 → Bounded (slope_at n ρ)
 unfolding slope_at
@@ -91,8 +86,8 @@ less n h = omega arith
 
 arrived_within : (n : ℕ) (a : Answer) → n < 50 → Bounded (arrived_at n a)
 unfolding arrived_at
-arrived_within n (Answer.Found v) h = slope_within n v.first (less n h)
-arrived_within n (Answer.Refused r) h = Bounded.ended
+arrived_within n (Ok v) h = slope_within n v.first (less n h)
+arrived_within n (Err r) h = Bounded.ended
 
 slope_on_within : (n : ℕ) (ρ : Float) (o : SlopeOutcome) → n < 50 → Bounded (slope_on n ρ o)
 unfolding slope_on
@@ -109,27 +104,27 @@ module _ (c : Conditions) where
   first_within (Slope.Next ρ) = slope_within 49 ρ (omega arith)
   first_within (Slope.Unstable error) = let l : 49 < 50 = omega arith in Bounded.slope l
 
-  nearest_within : (n : ℕ) (way : Nearest) (p : SpinodalPlace) → n < 50 → Few p → Bounded (nearest_on c n way p)
+  nearest_within : (n : ℕ) (way : Nearest) (p : Progress SpinodalSpot) → n < 50 → Few p → Bounded (nearest_on c n way p)
   unfolding nearest_on
-  nearest_within n way (Spinodal.Ended (Answer.Found sp)) h f = arrived_within n (after_nearest c way sp) h
-  nearest_within n way (Spinodal.Ended (Answer.Refused r)) h f = Bounded.ended
-  nearest_within n way (Spinodal.At s) h (Few.at l) = Bounded.nearest h l
+  nearest_within n way (Break (Ok sp)) h f = arrived_within n (after_nearest c way sp) h
+  nearest_within n way (Break (Err r)) h f = Bounded.ended
+  nearest_within n way (Continue s) h (Few.at l) = Bounded.nearest h l
 
-  vapor_within : (n : ℕ) (way : Both) (ρl : Float) (p : SpinodalPlace) → n < 50 → Few p → Bounded (vapor_on c n way ρl p)
+  vapor_within : (n : ℕ) (way : Both) (ρl : Float) (p : Progress SpinodalSpot) → n < 50 → Few p → Bounded (vapor_on c n way ρl p)
   unfolding vapor_on
-  vapor_within n way ρl (Spinodal.Ended (Answer.Found v)) h f = slope_within n _ (less n h)
-  vapor_within n way ρl (Spinodal.Ended (Answer.Refused r)) h f = Bounded.ended
-  vapor_within n way ρl (Spinodal.At s) h (Few.at l) = Bounded.in_vapor h l
+  vapor_within n way ρl (Break (Ok v)) h f = slope_within n _ (less n h)
+  vapor_within n way ρl (Break (Err r)) h f = Bounded.ended
+  vapor_within n way ρl (Continue s) h (Few.at l) = Bounded.in_vapor h l
 
   begin_few : (branch : Branch) → Few (branch_begin c.maxdensity branch)
   unfolding branch_begin
   begin_few branch = branch_few branch _ (start_few (branch_start c.maxdensity branch))
 
-  liquid_within : (n : ℕ) (way : Both) (p : SpinodalPlace) → n < 50 → Few p → Bounded (liquid_on c n way p)
+  liquid_within : (n : ℕ) (way : Both) (p : Progress SpinodalSpot) → n < 50 → Few p → Bounded (liquid_on c n way p)
   unfolding liquid_on
-  liquid_within n way (Spinodal.Ended (Answer.Found l)) h f = vapor_within n way l.second (branch_begin c.maxdensity Vapor) h (begin_few Vapor)
-  liquid_within n way (Spinodal.Ended (Answer.Refused r)) h f = Bounded.ended
-  liquid_within n way (Spinodal.At s) h (Few.at l) = Bounded.in_liquid h l
+  liquid_within n way (Break (Ok l)) h f = vapor_within n way l.second (branch_begin c.maxdensity Vapor) h (begin_few Vapor)
+  liquid_within n way (Break (Err r)) h f = Bounded.ended
+  liquid_within n way (Continue s) h (Few.at l) = Bounded.in_liquid h l
 
   detour_within : (n : ℕ) (way : Detour) → n < 50 → Bounded (detour_at c n way)
   unfolding detour_at
@@ -140,11 +135,11 @@ module _ (c : Conditions) where
   unfolding curvature_on
   curvature_within n ρ error y h = go (finite3 y)
     where
-      go : (b : Bool) → Bounded (cond b (detour_at c n (detour_of c.maxdensity ρ error y.d2p_drho2)) (Density.Ended (Failed NotFinite)))
+      go : (b : Bool) → Bounded (cond b (detour_at c n (detour_of c.maxdensity ρ error y.d2p_drho2)) (Break (Err NotFinite)))
       go true = detour_within n _ h
       go false = Bounded.ended
 
-  next_within : (ev : Evaluator) (s : DensitySpot) → Bounded (Density.At s) → Bounded (density_next c ev s)
+  next_within : (ev : Evaluator) (s : DensitySpot) → Bounded (Continue s) → Bounded (density_next c ev s)
   unfolding density_next spinodal_next branch_next
   next_within ev First w = first_within _
   next_within ev (Slope n ρ) (Bounded.slope h) = slope_on_within n ρ _ h
@@ -157,7 +152,7 @@ module _ (c : Conditions) where
   unfolding density_begin
   begin_within = go (le c.start f0)
     where
-      go : (b : Bool) → Bounded (cond b (Density.Ended (Failed StartNotPositive)) (Density.At First))
+      go : (b : Bool) → Bounded (cond b (Break (Err StartNotPositive)) (Continue First))
       go true = Bounded.ended
       go false = Bounded.first
 
@@ -179,7 +174,7 @@ module _ (stage status : ℕ) (z : Float) (g : stage < 5) (st : status_fits stat
   unfolding staged spot_numbers
   asks tag left way rounds x y t l w r = fits 50 _ (record { stage = g; tag = t; status = st; left = l; way = w; rounds = r })
 
-  spot_fits : (s : DensitySpot) → Bounded (Density.At s) → Fits (staged stage status z (density_spot_numbers s))
+  spot_fits : (s : DensitySpot) → Bounded (Continue s) → Fits (staged stage status z (density_spot_numbers s))
   unfolding density_spot_numbers
   spot_fits First w = asks 1 0 0 0 _ _ (omega arith) (omega arith) (omega arith) (omega arith)
   spot_fits (Slope n ρ) (Bounded.slope h) = asks 2 n 0 0 _ _ (omega arith) h (omega arith) (omega arith)
@@ -188,7 +183,7 @@ module _ (stage status : ℕ) (z : Float) (g : stage < 5) (st : status_fits stat
   spot_fits (LiquidSpinodal n way s) (Bounded.in_liquid h l) = asks 5 n _ s.rounds _ _ (omega arith) h (both_below way) l
   spot_fits (VaporSpinodal n way ρl s) (Bounded.in_vapor h l) = asks 6 n _ s.rounds _ _ (omega arith) h (both_below way) l
 
-  spot_within : (s : DensitySpot) → Fits (staged stage status z (density_spot_numbers s)) → Bounded (Density.At s)
+  spot_within : (s : DensitySpot) → Fits (staged stage status z (density_spot_numbers s)) → Bounded (Continue s)
   unfolding density_spot_numbers staged spot_numbers
   spot_within First e = Bounded.first
   spot_within (Slope n ρ) e = Bounded.slope (below 50 _ e).left
@@ -198,16 +193,16 @@ module _ (stage status : ℕ) (z : Float) (g : stage < 5) (st : status_fits stat
   spot_within (VaporSpinodal n way ρl s) e = Bounded.in_vapor (below 50 _ e).left (below 50 _ e).rounds
 
 -- ---- kinds 3 and 4
-spinodal_fits : (p : SpinodalPlace) → Few p → Fits (spinodal_numbers p)
+spinodal_fits : (p : Progress SpinodalSpot) → Few p → Fits (spinodal_numbers p)
 unfolding spinodal_numbers spot_numbers status_fits
-spinodal_fits (Spinodal.Ended a) f = ended_fits a
-spinodal_fits (Spinodal.At s) (Few.at l) = fits 50 _ (record { stage = omega arith; tag = omega arith; status = refl; left = omega arith; way = omega arith; rounds = l })
+spinodal_fits (Break a) f = ended_fits a
+spinodal_fits (Continue s) (Few.at l) = fits 50 _ (record { stage = omega arith; tag = omega arith; status = refl; left = omega arith; way = omega arith; rounds = l })
 
-spinodal_few : (s : SpinodalSpot) → Fits (spinodal_numbers (Spinodal.At s)) → s.rounds < 50
+spinodal_few : (s : SpinodalSpot) → Fits (spinodal_numbers (Continue s)) → s.rounds < 50
 unfolding spinodal_numbers spot_numbers
 spinodal_few s e = (below 50 _ e).rounds
 
-module _ (maxdensity t : Float) (ev : Evaluator) (s : SpinodalSpot) (e : Fits (spinodal_numbers (Spinodal.At s))) where
+module _ (maxdensity t : Float) (ev : Evaluator) (s : SpinodalSpot) (e : Fits (spinodal_numbers (Continue s))) where
   pub spinodal_kept : Fits (spinodal_numbers (spinodal_next maxdensity t ev s))
   unfolding spinodal_next
   spinodal_kept = spinodal_fits _ (on_few s.rounds _ (spinodal_few s e))
@@ -233,12 +228,12 @@ unstaged (NearestSpinodal n way s) = refl
 unstaged (LiquidSpinodal n way s) = refl
 unstaged (VaporSpinodal n way ρl s) = refl
 
-density_fits : (p : DensityPlace) → Bounded p → Fits (density_numbers p)
+density_fits : (p : Standing DensitySpot) → Bounded p → Fits (density_numbers p)
 unfolding density_numbers status_fits
-density_fits (Density.Ended p) w = ended_fits (phase_answer p)
-density_fits (Density.At s) w = rw unstaged at (spot_fits 0 0 f0 (omega arith) refl s w)
+density_fits (Break p) w = ended_fits (phase_answer p)
+density_fits (Continue s) w = rw unstaged at (spot_fits 0 0 f0 (omega arith) refl s w)
 
-pub density_kept : (c : Conditions) (ev : Evaluator) (s : DensitySpot) → Fits (density_numbers (Density.At s)) → Fits (density_numbers (density_next c ev s))
+pub density_kept : (c : Conditions) (ev : Evaluator) (s : DensitySpot) → Fits (density_numbers (Continue s)) → Fits (density_numbers (density_next c ev s))
 unfolding density_numbers status_fits
 density_kept c ev s e = density_fits _ (next_within c ev s (spot_within 0 0 f0 (omega arith) refl s (rw unstaged e)))
 
@@ -252,37 +247,37 @@ potential_fits stage x y z g = fits 50 _ (record { stage = g; tag = omega arith;
 
 phases_fit : (liquid vapor : Phase) → Fits (stable_numbers (phases_on liquid vapor))
 unfolding phases_on stable_numbers
-phases_fit (Found l) (Found v) = potential_fits 3 l v f0 (omega arith)
-phases_fit (Found l) (Failed r) = ended_fits _
-phases_fit (Failed q) (Found v) = ended_fits _
-phases_fit (Failed q) (Failed r) = ended_fits _
+phases_fit (Ok l) (Ok v) = potential_fits 3 l v f0 (omega arith)
+phases_fit (Ok l) (Err r) = ended_fits _
+phases_fit (Err q) (Ok v) = ended_fits _
+phases_fit (Err q) (Err r) = ended_fits _
 
-vapor_fits : (liquid : Phase) (p : DensityPlace) → Bounded p → Fits (stable_numbers (vapor_search_on liquid p))
+vapor_fits : (liquid : Phase) (p : Standing DensitySpot) → Bounded p → Fits (stable_numbers (vapor_search_on liquid p))
 unfolding vapor_search_on stable_numbers
-vapor_fits liquid (Density.Ended vapor) w = phases_fit liquid vapor
-vapor_fits liquid (Density.At s) w = spot_fits 2 (status_of (phase_answer liquid)) _ (omega arith) (status_fits_lem (phase_answer liquid)) s w
+vapor_fits liquid (Break vapor) w = phases_fit liquid vapor
+vapor_fits liquid (Continue s) w = spot_fits 2 (status_of (phase_answer liquid)) _ (omega arith) (status_fits_lem (phase_answer liquid)) s w
 
-liquid_potential_fits : (l v μl : Float) (b : Bool) → Fits (stable_numbers (cond b (Stable.At (VaporPotential l v μl)) (Stable.Ended (Failed NotFinite))))
+liquid_potential_fits : (l v μl : Float) (b : Bool) → Fits (stable_numbers (cond b (Continue (VaporPotential l v μl)) (Break (Err NotFinite))))
 unfolding stable_numbers
 liquid_potential_fits l v μl true = potential_fits 4 l v μl (omega arith)
 liquid_potential_fits l v μl false = ended_fits _
 
-vapor_potential_fits : (ρ : Float) (b : Bool) → Fits (stable_numbers (cond b (Stable.Ended (Found ρ)) (Stable.Ended (Failed NotFinite))))
+vapor_potential_fits : (ρ : Float) (b : Bool) → Fits (stable_numbers (cond b (Break (Ok ρ)) (Break (Err NotFinite))))
 unfolding stable_numbers
 vapor_potential_fits ρ true = ended_fits _
 vapor_potential_fits ρ false = ended_fits _
 
 module _ (maxdensity t p : Float) where
-  liquid_fits : (x : DensityPlace) → Bounded x → Fits (stable_numbers (liquid_search_on maxdensity t p x))
+  liquid_fits : (x : Standing DensitySpot) → Bounded x → Fits (stable_numbers (liquid_search_on maxdensity t p x))
   unfolding liquid_search_on stable_numbers status_fits
-  liquid_fits (Density.Ended liquid) w = go (lt p (maxdensity ⊗ t))
+  liquid_fits (Break liquid) w = go (lt p (maxdensity ⊗ t))
     where
-      go : (b : Bool) → Fits (stable_numbers (cond b (vapor_search_on liquid (density_begin (of_vapor maxdensity t p))) (Stable.Ended liquid)))
+      go : (b : Bool) → Fits (stable_numbers (cond b (vapor_search_on liquid (density_begin (of_vapor maxdensity t p))) (Break liquid)))
       go true = vapor_fits liquid _ (begin_within (of_vapor maxdensity t p))
       go false = ended_fits (phase_answer liquid)
-  liquid_fits (Density.At s) w = spot_fits 1 0 f0 (omega arith) refl s w
+  liquid_fits (Continue s) w = spot_fits 1 0 f0 (omega arith) refl s w
 
-  pub stable_kept : (ev : Evaluator) (s : StableSpot) → Fits (stable_numbers (Stable.At s)) → Fits (stable_numbers (stable_next maxdensity t p ev s))
+  pub stable_kept : (ev : Evaluator) (s : StableSpot) → Fits (stable_numbers (Continue s)) → Fits (stable_numbers (stable_next maxdensity t p ev s))
   unfolding stable_next stable_numbers status_fits liquid_potential_on vapor_potential_on
   stable_kept ev (LiquidSearch s) e = liquid_fits _ (next_within (of_liquid maxdensity t p) ev s (spot_within 1 0 f0 (omega arith) refl s e))
   stable_kept ev (VaporSearch liquid s) e =

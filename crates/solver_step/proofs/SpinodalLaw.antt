@@ -6,27 +6,25 @@ use lib.Ieee.{Float, le}
 use Rattle.float.specs.Ops.{f0}
 use Rattle.float.specs.Sign.{finite_of}
 use Rattle.solver.specs.declared.types.Refusal.TheVariants.{StartNotPositive}
-use Rattle.solver.specs.declared.types.Answer.{Answer}
-use Rattle.solver.specs.declared.types.Answer.TheVariants.{Found, Refused}
+use Rattle.solver.specs.Answer.{Answer}
+use Rattle.std.specs.Prelude.{Ok, Err}
 use Rattle.solver.specs.Search.{Evaluator, Search, done, refuse, bind, on_found, settle, next_of, curvature}
 use Rattle.solver.proofs.Steps.{settle_bind, moved, next_bind, settled}
 use Rattle.solver_density.specs.declared.types.Branch.{Branch}
-use Rattle.solver_density.specs.declared.types.Outcome.{Outcome}
-use Rattle.solver_density.specs.declared.types.Outcome.TheVariants.{End, Next}
+use Rattle.solver.specs.Answer.{Progress}
+use Rattle.std.specs.declared.ops.ControlFlow.TheVariants.{Break, Continue}
 use Rattle.solver_density.specs.Spinodal.{spinodal_from, pressure_spinodal, branch_start, branch_answer, pressure_spinodal_branch}
 use Rattle.solver_density.proofs.Settles.{led, round_led}
 use Rattle.solver_step.specs.declared.types.SpinodalSpot.{SpinodalSpot}
-use Rattle.solver_step.specs.declared.types.SpinodalPlace.{SpinodalPlace}
-use Rattle.solver_step.specs.declared.types.SpinodalPlace.TheVariants.{Ended, At}
 use Rattle.solver_step.specs.SpinodalStep.{spinodal_on, spinodal_start, resume_spinodal, spinodal_left, spinodal_next, branch_place, branch_begin, resume_branch, branch_left, branch_next}
 
 module _ (maxdensity t : Float) where
   -- ---- kind 3
-  spinodal_on_lem : (n : ℕ) (o : Outcome) → spinodal_left maxdensity t (spinodal_on n o) ≡ settled (led o (spinodal_from maxdensity t n))
+  spinodal_on_lem : (n : ℕ) (o : Progress Float) → spinodal_left maxdensity t (spinodal_on n o) ≡ settled (led o (spinodal_from maxdensity t n))
   unfolding spinodal_left resume_spinodal spinodal_on settle led spinodal_from
-  spinodal_on_lem n (End a) = refl
-  spinodal_on_lem zero (Next ρ) = refl
-  spinodal_on_lem (suc n) (Next ρ) = refl
+  spinodal_on_lem n (Break a) = refl
+  spinodal_on_lem zero (Continue ρ) = refl
+  spinodal_on_lem (suc n) (Continue ρ) = refl
 
   pub spinodal_law : (ev : Evaluator) (s : SpinodalSpot) (n : ℕ) (d : Float)
       → next_of finite_of ev (resume_spinodal maxdensity t s) n d ≡ moved n s.rho (spinodal_left maxdensity t (spinodal_next maxdensity t ev s))
@@ -38,7 +36,7 @@ module _ (maxdensity t : Float) where
   unfolding spinodal_left resume_spinodal spinodal_start settle pressure_spinodal spinodal_from
   spinodal_begins ρ = go (le ρ f0)
     where
-      go : (b : Bool) → spinodal_left maxdensity t (cond b (Ended (Refused StartNotPositive)) (At (record { rounds = 29; rho = ρ }))) ≡ settled (cond b (refuse StartNotPositive) (spinodal_from maxdensity t 30 ρ))
+      go : (b : Bool) → spinodal_left maxdensity t (cond b (Break (Err StartNotPositive)) (Continue (record { rounds = 29; rho = ρ }))) ≡ settled (cond b (refuse StartNotPositive) (spinodal_from maxdensity t 30 ρ))
       go true = refl
       go false = refl
 
@@ -56,11 +54,11 @@ module _ (maxdensity t : Float) where
     abbrev ends : Answer → Search
     ends = on_found (λ v. done (branch_answer branch v))
 
-    branch_place_lem : (p : SpinodalPlace) → branch_left maxdensity t branch (branch_place branch p) ≡ settled (bind (spinodal_left maxdensity t p) ends)
+    branch_place_lem : (p : Progress SpinodalSpot) → branch_left maxdensity t branch (branch_place branch p) ≡ settled (bind (spinodal_left maxdensity t p) ends)
     unfolding branch_left branch_place resume_branch spinodal_left settle bind on_found
-    branch_place_lem (Ended (Found v)) = refl
-    branch_place_lem (Ended (Refused r)) = refl
-    branch_place_lem (At s) = sym (spinodal_asks s ends)
+    branch_place_lem (Break (Ok v)) = refl
+    branch_place_lem (Break (Err r)) = refl
+    branch_place_lem (Continue s) = sym (spinodal_asks s ends)
 
     pub branch_law : (ev : Evaluator) (s : SpinodalSpot) (n : ℕ) (d : Float)
         → next_of finite_of ev (resume_branch maxdensity t branch s) n d ≡ moved n s.rho (branch_left maxdensity t branch (branch_next maxdensity t branch ev s))

@@ -6,20 +6,18 @@ use lib.Ieee.{Float, lt}
 use Rattle.float.specs.Ops.{◌⊗◌}
 use Rattle.float.specs.Sign.{finite_of}
 use Rattle.solver.specs.declared.types.Refusal.TheVariants.{NotFinite}
-use Rattle.solver.specs.declared.types.Answer.{Answer}
+use Rattle.solver.specs.Answer.{Answer}
 use Rattle.solver.specs.Search.{Evaluator, Search, done, refuse, tested, bind, settle, next_of, potential}
 use Rattle.solver.proofs.Steps.{settle_bind, settle_tested, moved, next_bind, settled}
 use Rattle.solver_density.specs.declared.types.Conditions.{Conditions}
 use Rattle.solver_density.specs.Density.{density_search, density_iteration}
 use Rattle.solver_density.specs.Stable.{lower_potential, vapor_potential, potentials, stable_phase, after_liquid, density_iteration_stable}
-use Rattle.solver_step.specs.declared.types.Phase.{Phase}
-use Rattle.solver_step.specs.declared.types.Phase.TheVariants.{Found, Failed}
-use Rattle.solver_step.specs.declared.types.DensityPlace.{DensityPlace}
-use Rattle.solver_step.specs.declared.types.DensityPlace.TheVariants as Density
+use Rattle.solver_step.specs.Phase.{Phase, Standing}
+use Rattle.std.specs.Prelude.{Ok, Err}
+use Rattle.solver_step.specs.declared.types.DensitySpot.{DensitySpot}
+use Rattle.std.specs.declared.ops.ControlFlow.TheVariants.{Break, Continue}
 use Rattle.solver_step.specs.declared.types.StableSpot.{StableSpot}
 use Rattle.solver_step.specs.declared.types.StableSpot.TheVariants.{LiquidSearch, VaporSearch, LiquidPotential, VaporPotential}
-use Rattle.solver_step.specs.declared.types.StablePlace.{StablePlace}
-use Rattle.solver_step.specs.declared.types.StablePlace.TheVariants.{Ended, At}
 use Rattle.solver_step.specs.DensityStep.{phase_answer, resume_density, density_left, density_at, density_begin}
 use Rattle.solver_step.specs.StableStep.{of_density, phases_on, vapor_search_on, liquid_potential_on, vapor_potential_on, of_liquid, of_vapor, resume_stable, stable_left, stable_at, liquid_search_on, stable_next, stable_begin}
 use Rattle.solver_step.proofs.DensityLaw.{density_law, density_begins, density_asks}
@@ -29,36 +27,36 @@ phase_begins : (c : Conditions) (f : Answer → Search) → settled (bind (densi
 phase_begins c f = ap (λ (x : Search). settled (bind x f)) (density_begins c) ∙ settle_bind finite_of (density_search c) f
 
 module _ (maxdensity t p : Float) where
-  abbrev left : StablePlace → Search
+  abbrev left : Standing StableSpot → Search
   left = stable_left maxdensity t p
 
   phases_on_lem : (liquid vapor : Phase) → left (phases_on liquid vapor) ≡ settled (stable_phase t (phase_answer liquid) (phase_answer vapor))
   unfolding stable_left resume_stable phases_on stable_phase phase_answer potentials settle
-  phases_on_lem (Found l) (Found v) = refl
-  phases_on_lem (Found l) (Failed r) = refl
-  phases_on_lem (Failed q) (Found v) = refl
-  phases_on_lem (Failed q) (Failed r) = refl
+  phases_on_lem (Ok l) (Ok v) = refl
+  phases_on_lem (Ok l) (Err r) = refl
+  phases_on_lem (Err q) (Ok v) = refl
+  phases_on_lem (Err q) (Err r) = refl
 
-  vapor_on_lem : (liquid : Phase) (x : DensityPlace) → left (vapor_search_on liquid x) ≡ settled (bind (density_left (of_vapor maxdensity t p) x) (stable_phase t (phase_answer liquid)))
+  vapor_on_lem : (liquid : Phase) (x : Standing DensitySpot) → left (vapor_search_on liquid x) ≡ settled (bind (density_left (of_vapor maxdensity t p) x) (stable_phase t (phase_answer liquid)))
   unfolding stable_left resume_stable vapor_search_on density_left bind
-  vapor_on_lem liquid (Density.Ended vapor) = phases_on_lem liquid vapor
-  vapor_on_lem liquid (Density.At s) = sym (density_asks (of_vapor maxdensity t p) s (stable_phase t (phase_answer liquid)))
+  vapor_on_lem liquid (Break vapor) = phases_on_lem liquid vapor
+  vapor_on_lem liquid (Continue s) = sym (density_asks (of_vapor maxdensity t p) s (stable_phase t (phase_answer liquid)))
 
-  liquid_on_lem : (x : DensityPlace) → left (liquid_search_on maxdensity t p x) ≡ settled (bind (density_left (of_liquid maxdensity t p) x) (after_liquid maxdensity t p))
+  liquid_on_lem : (x : Standing DensitySpot) → left (liquid_search_on maxdensity t p x) ≡ settled (bind (density_left (of_liquid maxdensity t p) x) (after_liquid maxdensity t p))
   unfolding stable_left resume_stable liquid_search_on density_left bind after_liquid settle density_iteration
-  liquid_on_lem (Density.Ended liquid) = go (lt p (maxdensity ⊗ t))
+  liquid_on_lem (Break liquid) = go (lt p (maxdensity ⊗ t))
     where
-      go : (b : Bool) → left (cond b (vapor_search_on liquid (density_begin (of_vapor maxdensity t p))) (Ended liquid))
+      go : (b : Bool) → left (cond b (vapor_search_on liquid (density_begin (of_vapor maxdensity t p))) (Break liquid))
           ≡ settled (cond b (bind (density_search (of_vapor maxdensity t p)) (stable_phase t (phase_answer liquid))) (done (phase_answer liquid)))
       go true = vapor_on_lem liquid (density_begin (of_vapor maxdensity t p)) ∙ phase_begins (of_vapor maxdensity t p) (stable_phase t (phase_answer liquid))
       go false = refl
-  liquid_on_lem (Density.At s) = sym (density_asks (of_liquid maxdensity t p) s (after_liquid maxdensity t p))
+  liquid_on_lem (Continue s) = sym (density_asks (of_liquid maxdensity t p) s (after_liquid maxdensity t p))
 
   liquid_potential_on_lem : (l v μl : Float) → left (liquid_potential_on l v μl) ≡ settled (tested μl (vapor_potential t (of_density l) (of_density v) μl))
   unfolding stable_left resume_stable phase_answer liquid_potential_on vapor_potential settle
   liquid_potential_on_lem l v μl = go (finite_of μl) ∙ sym (settle_tested finite_of μl (vapor_potential t (of_density l) (of_density v) μl))
     where
-      go : (b : Bool) → left (cond b (At (VaporPotential l v μl)) (Ended (Failed NotFinite))) ≡ cond b (settled (vapor_potential t (of_density l) (of_density v) μl)) (refuse NotFinite)
+      go : (b : Bool) → left (cond b (Continue (VaporPotential l v μl)) (Break (Err NotFinite))) ≡ cond b (settled (vapor_potential t (of_density l) (of_density v) μl)) (refuse NotFinite)
       go true = refl
       go false = refl
 
@@ -66,7 +64,7 @@ module _ (maxdensity t p : Float) where
   unfolding stable_left phase_answer vapor_potential_on lower_potential settle
   vapor_potential_on_lem l v μl μv = go (finite_of μv) (lt μv μl) ∙ sym (settle_tested finite_of μv (done (lower_potential (of_density l) (of_density v) μl μv)))
     where
-      go : (b d : Bool) → left (cond b (Ended (Found (cond d v l))) (Ended (Failed NotFinite))) ≡ cond b (done (cond d (phase_answer (Found v)) (phase_answer (Found l)))) (refuse NotFinite)
+      go : (b d : Bool) → left (cond b (Break (Ok (cond d v l))) (Break (Err NotFinite))) ≡ cond b (done (cond d (phase_answer (Ok v)) (phase_answer (Ok l)))) (refuse NotFinite)
       go true true = refl
       go true false = refl
       go false d = refl

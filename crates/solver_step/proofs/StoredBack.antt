@@ -12,35 +12,33 @@ use Rattle.solver.specs.Stored.{refusal_by, ended_numbers}
 use Rattle.solver.proofs.StoredBack.{answer_back}
 use Rattle.solver_density.specs.declared.types.Nearest.TheVariants.{HighDensity, AboveConvex, BelowConcave}
 use Rattle.solver_density.specs.declared.types.Both.TheVariants.{BelowConvex, AboveConcave}
-use Rattle.solver_step.specs.declared.types.SpinodalPlace.{SpinodalPlace}
-use Rattle.solver_step.specs.declared.types.SpinodalPlace.TheVariants as Spinodal
-use Rattle.solver_step.specs.declared.types.Phase.{Phase}
-use Rattle.solver_step.specs.declared.types.Phase.TheVariants.{Found, Failed}
+use Rattle.solver.specs.Answer.{Progress}
+use Rattle.solver_step.specs.declared.types.SpinodalSpot.{SpinodalSpot}
+use Rattle.std.specs.declared.ops.ControlFlow.TheVariants.{Break, Continue}
+use Rattle.solver_step.specs.Phase.{Phase, Standing}
+use Rattle.std.specs.Prelude.{Ok, Err}
 use Rattle.solver_step.specs.declared.types.DensitySpot.{DensitySpot}
 use Rattle.solver_step.specs.declared.types.DensitySpot.TheVariants.{First, Slope, Curvature, NearestSpinodal, LiquidSpinodal, VaporSpinodal}
-use Rattle.solver_step.specs.declared.types.DensityPlace.{DensityPlace}
-use Rattle.solver_step.specs.declared.types.DensityPlace.TheVariants as Density
 use Rattle.solver_step.specs.declared.types.StableSpot.TheVariants.{LiquidSearch, VaporSearch, LiquidPotential, VaporPotential}
-use Rattle.solver_step.specs.declared.types.StablePlace.{StablePlace}
-use Rattle.solver_step.specs.declared.types.StablePlace.TheVariants as Stable
+use Rattle.solver_step.specs.declared.types.StableSpot.{StableSpot}
 use Rattle.solver_step.specs.DensityStep.{phase_answer}
 use Rattle.solver_step.specs.Stored.{nearest_number, nearest_by, both_number, both_by, spot_numbers, spinodal_numbers, spinodal_spot_by, spinodal_place_by, phase_by, density_spot_numbers, density_spot_by, density_numbers, density_place_by, staged, potential_numbers, stable_numbers, stable_spot_by, stable_place_by}
 
-pub spinodal_back : (p : SpinodalPlace) → spinodal_place_by (spinodal_numbers p) ≡ p
+pub spinodal_back : (p : Progress SpinodalSpot) → spinodal_place_by (spinodal_numbers p) ≡ p
 unfolding spinodal_place_by spinodal_spot_by spinodal_numbers ended_numbers spot_numbers
-spinodal_back (Spinodal.Ended a) = ap Spinodal.Ended (answer_back a)
-spinodal_back (Spinodal.At s) = refl
+spinodal_back (Break a) = ap Break (answer_back a)
+spinodal_back (Continue s) = refl
 
 phase_back : (p : Phase) → phase_by (status_of (phase_answer p)) (values_of (phase_answer p)).first ≡ p
 unfolding phase_by refusal_by status_of values_of number_of phase_answer
-phase_back (Found ρ) = refl
-phase_back (Failed StartNotPositive) = refl
-phase_back (Failed NotConverged) = refl
-phase_back (Failed IterationFailed) = refl
-phase_back (Failed BothPhasesFailed) = refl
-phase_back (Failed WrongBranch) = refl
-phase_back (Failed Supercritical) = refl
-phase_back (Failed NotFinite) = refl
+phase_back (Ok ρ) = refl
+phase_back (Err StartNotPositive) = refl
+phase_back (Err NotConverged) = refl
+phase_back (Err IterationFailed) = refl
+phase_back (Err BothPhasesFailed) = refl
+phase_back (Err WrongBranch) = refl
+phase_back (Err Supercritical) = refl
+phase_back (Err NotFinite) = refl
 
 density_spot_back : (s : DensitySpot) → density_spot_by (density_spot_numbers s) ≡ s
 unfolding density_spot_by density_spot_numbers spinodal_spot_by spot_numbers nearest_by nearest_number both_by both_number
@@ -64,22 +62,22 @@ spot_tag (NearestSpinodal n way s) = refl
 spot_tag (LiquidSpinodal n way s) = refl
 spot_tag (VaporSpinodal n way ρl s) = refl
 
-pub density_back : (p : DensityPlace) → density_place_by (density_numbers p) ≡ p
+pub density_back : (p : Standing DensitySpot) → density_place_by (density_numbers p) ≡ p
 unfolding density_place_by density_numbers ended_numbers
-density_back (Density.Ended p) = ap Density.Ended (phase_back p)
-density_back (Density.At s) = rw (spot_tag s) (ap Density.At (density_spot_back s))
+density_back (Break p) = ap Break (phase_back p)
+density_back (Continue s) = rw (spot_tag s) (ap Continue (density_spot_back s))
 
 -- the stage, the status and the third value are not read for a density's place
 staged_spot : (stage status : ℕ) (z : Float) (n : Numbers) → density_spot_by (staged stage status z n) ≡ density_spot_by n
 unfolding density_spot_by spinodal_spot_by staged
 staged_spot stage status z n = refl
 
-pub stable_back : (p : StablePlace) → stable_place_by (stable_numbers p) ≡ p
+pub stable_back : (p : Standing StableSpot) → stable_place_by (stable_numbers p) ≡ p
 unfolding stable_place_by stable_spot_by stable_numbers ended_numbers potential_numbers staged
-stable_back (Stable.Ended p) = ap Stable.Ended (phase_back p)
-stable_back (Stable.At (LiquidSearch s)) = ap (λ (x : DensitySpot). Stable.At (LiquidSearch x)) (staged_spot 1 0 f0 (density_spot_numbers s) ∙ density_spot_back s)
-stable_back (Stable.At (VaporSearch liquid s)) =
-    ap (λ (x : Phase). Stable.At (VaporSearch x (density_spot_by (staged 2 (status_of (phase_answer liquid)) (values_of (phase_answer liquid)).first (density_spot_numbers s))))) (phase_back liquid)
-    ∙ ap (λ (x : DensitySpot). Stable.At (VaporSearch liquid x)) (staged_spot 2 (status_of (phase_answer liquid)) (values_of (phase_answer liquid)).first (density_spot_numbers s) ∙ density_spot_back s)
-stable_back (Stable.At (LiquidPotential l v)) = refl
-stable_back (Stable.At (VaporPotential l v μl)) = refl
+stable_back (Break p) = ap Break (phase_back p)
+stable_back (Continue (LiquidSearch s)) = ap (λ (x : DensitySpot). Continue (LiquidSearch x)) (staged_spot 1 0 f0 (density_spot_numbers s) ∙ density_spot_back s)
+stable_back (Continue (VaporSearch liquid s)) =
+    ap (λ (x : Phase). Continue (VaporSearch x (density_spot_by (staged 2 (status_of (phase_answer liquid)) (values_of (phase_answer liquid)).first (density_spot_numbers s))))) (phase_back liquid)
+    ∙ ap (λ (x : DensitySpot). Continue (VaporSearch liquid x)) (staged_spot 2 (status_of (phase_answer liquid)) (values_of (phase_answer liquid)).first (density_spot_numbers s) ∙ density_spot_back s)
+stable_back (Continue (LiquidPotential l v)) = refl
+stable_back (Continue (VaporPotential l v μl)) = refl

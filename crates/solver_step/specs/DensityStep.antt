@@ -5,7 +5,7 @@ use Rattle.float.specs.Ops.{f0}
 use Rattle.evaluations.specs.declared.types.Pressure.{Pressure}
 use Rattle.solver.specs.declared.types.Values.{Values}
 use Rattle.solver.specs.declared.types.Refusal.TheVariants.{StartNotPositive, NotConverged, NotFinite}
-use Rattle.solver.specs.declared.types.Answer.{Answer}
+use Rattle.solver.specs.Answer.{Answer}
 use Rattle.solver.specs.Search.{Evaluator, Search, done, and_then, slope, curvature}
 use Rattle.solver_density.specs.declared.types.Branch.TheVariants.{Liquid, Vapor}
 use Rattle.solver_density.specs.declared.types.Conditions.{Conditions}
@@ -17,37 +17,36 @@ use Rattle.solver_density.specs.declared.types.Detour.{Detour}
 use Rattle.solver_density.specs.declared.types.Detour.TheVariants.{ByNearest, ByBoth}
 use Rattle.solver_density.specs.Density.{density, corrected, detour_of, after_nearest, after_both, vapor, unstable, density_from, first_round}
 use Rattle.solver_density.specs.Rounds.{finite3, slope_round}
-use Rattle.solver_step.specs.declared.types.SpinodalPlace.{SpinodalPlace}
-use Rattle.solver_step.specs.declared.types.SpinodalPlace.TheVariants as Spinodal
-use Rattle.solver_step.specs.declared.types.Phase.{Phase}
-use Rattle.solver_step.specs.declared.types.Phase.TheVariants.{Found, Failed}
+use Rattle.solver.specs.Answer.{Progress}
+use Rattle.solver_step.specs.declared.types.SpinodalSpot.{SpinodalSpot}
+use Rattle.std.specs.declared.ops.ControlFlow.TheVariants.{Break, Continue}
+use Rattle.solver_step.specs.Phase.{Phase, Standing}
+use Rattle.std.specs.Prelude.{Ok, Err}
 use Rattle.solver_step.specs.declared.types.DensitySpot.{DensitySpot}
 use Rattle.solver_step.specs.declared.types.DensitySpot.TheVariants.{First, Slope, Curvature, NearestSpinodal, LiquidSpinodal, VaporSpinodal}
-use Rattle.solver_step.specs.declared.types.DensityPlace.{DensityPlace}
-use Rattle.solver_step.specs.declared.types.DensityPlace.TheVariants.{Ended, At}
 use Rattle.solver_step.specs.SpinodalStep.{resume_spinodal, spinodal_start, spinodal_next, branch_begin, resume_branch, branch_next}
 
 -- how a density search ended, as an answer
 unfoldable pub phase_answer : Phase → Answer
-phase_answer (Found ρ) = density ρ
-phase_answer (Failed r) = Answer.Refused r
+phase_answer (Ok ρ) = density ρ
+phase_answer (Err r) = Err r
 
 -- the next round, n being left with it
-unfoldable pub slope_at : ℕ → Float → DensityPlace
-slope_at zero ρ = Ended (Failed NotConverged)
-slope_at (suc n) ρ = At (Slope n ρ)
+unfoldable pub slope_at : ℕ → Float → Standing DensitySpot
+slope_at zero ρ = Break (Err NotConverged)
+slope_at (suc n) ρ = Continue (Slope n ρ)
 
 -- a detour's end
-unfoldable pub arrived_at : ℕ → Answer → DensityPlace
-arrived_at n (Answer.Found v) = slope_at n v.first
-arrived_at n (Answer.Refused r) = Ended (Failed r)
+unfoldable pub arrived_at : ℕ → Answer → Standing DensitySpot
+arrived_at n (Ok v) = slope_at n v.first
+arrived_at n (Err r) = Break (Err r)
 
 -- where a round at ρ leads, n being left after it
-unfoldable pub slope_on : ℕ → Float → SlopeOutcome → DensityPlace
-slope_on n ρ Slope.NotFinite = Ended (Failed NotFinite)
-slope_on n ρ (Slope.Converged ρ') = Ended (Found ρ')
+unfoldable pub slope_on : ℕ → Float → SlopeOutcome → Standing DensitySpot
+slope_on n ρ Slope.NotFinite = Break (Err NotFinite)
+slope_on n ρ (Slope.Converged ρ') = Break (Ok ρ')
 slope_on n ρ (Slope.Next ρ') = slope_at n ρ'
-slope_on n ρ (Slope.Unstable error) = At (Curvature n ρ error)
+slope_on n ρ (Slope.Unstable error) = Continue (Curvature n ρ error)
 
 module _ (c : Conditions) where
   -- what follows a detour
@@ -63,9 +62,9 @@ module _ (c : Conditions) where
   resume_density (LiquidSpinodal n way s) = and_then (and_then (resume_branch c.maxdensity c.temperature Liquid s) (λ l. vapor c way l.second)) (go_on n)
   resume_density (VaporSpinodal n way ρl s) = and_then (and_then (resume_branch c.maxdensity c.temperature Vapor s) (λ v. done (density (after_both c way ρl v)))) (go_on n)
 
-  unfoldable pub density_left : DensityPlace → Search
-  density_left (Ended p) = done (phase_answer p)
-  density_left (At s) = resume_density s
+  unfoldable pub density_left : Standing DensitySpot → Search
+  density_left (Break p) = done (phase_answer p)
+  density_left (Continue s) = resume_density s
 
   -- the density of the spot's evaluation
   unfoldable pub density_at : DensitySpot → Float
@@ -77,38 +76,38 @@ module _ (c : Conditions) where
   density_at (VaporSpinodal n way ρl s) = s.rho
 
   -- where the first round leads
-  unfoldable pub first_on : SlopeOutcome → DensityPlace
-  first_on Slope.NotFinite = Ended (Failed NotFinite)
-  first_on (Slope.Converged ρ) = Ended (Found ρ)
+  unfoldable pub first_on : SlopeOutcome → Standing DensitySpot
+  first_on Slope.NotFinite = Break (Err NotFinite)
+  first_on (Slope.Converged ρ) = Break (Ok ρ)
   first_on (Slope.Next ρ) = slope_at 49 ρ
-  first_on (Slope.Unstable error) = At (Slope 49 (corrected c))
+  first_on (Slope.Unstable error) = Continue (Slope 49 (corrected c))
 
   -- where a detour's spinodal search stands, or what it leads to
-  unfoldable pub nearest_on : ℕ → Nearest → SpinodalPlace → DensityPlace
-  nearest_on n way (Spinodal.Ended (Answer.Found sp)) = arrived_at n (after_nearest c way sp)
-  nearest_on n way (Spinodal.Ended (Answer.Refused r)) = Ended (Failed r)
-  nearest_on n way (Spinodal.At s) = At (NearestSpinodal n way s)
+  unfoldable pub nearest_on : ℕ → Nearest → Progress SpinodalSpot → Standing DensitySpot
+  nearest_on n way (Break (Ok sp)) = arrived_at n (after_nearest c way sp)
+  nearest_on n way (Break (Err r)) = Break (Err r)
+  nearest_on n way (Continue s) = Continue (NearestSpinodal n way s)
 
-  unfoldable pub vapor_on : ℕ → Both → Float → SpinodalPlace → DensityPlace
-  vapor_on n way ρl (Spinodal.Ended (Answer.Found v)) = slope_at n (after_both c way ρl v)
-  vapor_on n way ρl (Spinodal.Ended (Answer.Refused r)) = Ended (Failed r)
-  vapor_on n way ρl (Spinodal.At s) = At (VaporSpinodal n way ρl s)
+  unfoldable pub vapor_on : ℕ → Both → Float → Progress SpinodalSpot → Standing DensitySpot
+  vapor_on n way ρl (Break (Ok v)) = slope_at n (after_both c way ρl v)
+  vapor_on n way ρl (Break (Err r)) = Break (Err r)
+  vapor_on n way ρl (Continue s) = Continue (VaporSpinodal n way ρl s)
 
-  unfoldable pub liquid_on : ℕ → Both → SpinodalPlace → DensityPlace
-  liquid_on n way (Spinodal.Ended (Answer.Found l)) = vapor_on n way l.second (branch_begin c.maxdensity Vapor)
-  liquid_on n way (Spinodal.Ended (Answer.Refused r)) = Ended (Failed r)
-  liquid_on n way (Spinodal.At s) = At (LiquidSpinodal n way s)
+  unfoldable pub liquid_on : ℕ → Both → Progress SpinodalSpot → Standing DensitySpot
+  liquid_on n way (Break (Ok l)) = vapor_on n way l.second (branch_begin c.maxdensity Vapor)
+  liquid_on n way (Break (Err r)) = Break (Err r)
+  liquid_on n way (Continue s) = Continue (LiquidSpinodal n way s)
 
   -- a detour begins
-  unfoldable pub detour_at : ℕ → Detour → DensityPlace
+  unfoldable pub detour_at : ℕ → Detour → Standing DensitySpot
   detour_at n (ByNearest way) = nearest_on n way (spinodal_start c.start)
   detour_at n (ByBoth way) = liquid_on n way (branch_begin c.maxdensity Liquid)
 
-  unfoldable pub curvature_on : ℕ → (ρ error : Float) → Pressure → DensityPlace
-  curvature_on n ρ error y = cond (finite3 y) (detour_at n (detour_of c.maxdensity ρ error y.d2p_drho2)) (Ended (Failed NotFinite))
+  unfoldable pub curvature_on : ℕ → (ρ error : Float) → Pressure → Standing DensitySpot
+  curvature_on n ρ error y = cond (finite3 y) (detour_at n (detour_of c.maxdensity ρ error y.d2p_drho2)) (Break (Err NotFinite))
 
   -- the one evaluation, and where it leads
-  unfoldable pub density_next : Evaluator → DensitySpot → DensityPlace
+  unfoldable pub density_next : Evaluator → DensitySpot → Standing DensitySpot
   density_next ev First = first_on (slope_round c c.start (ev (slope c.temperature c.start)))
   density_next ev (Slope n ρ) = slope_on n ρ (slope_round c ρ (ev (slope c.temperature ρ)))
   density_next ev (Curvature n ρ error) = curvature_on n ρ error (ev (curvature c.temperature ρ))
@@ -117,5 +116,5 @@ module _ (c : Conditions) where
   density_next ev (VaporSpinodal n way ρl s) = vapor_on n way ρl (branch_next c.maxdensity c.temperature Vapor ev s)
 
   -- where a search begins
-  unfoldable pub density_begin : DensityPlace
-  density_begin = cond (le c.start f0) (Ended (Failed StartNotPositive)) (At First)
+  unfoldable pub density_begin : Standing DensitySpot
+  density_begin = cond (le c.start f0) (Break (Err StartNotPositive)) (Continue First)

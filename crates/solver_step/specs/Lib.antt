@@ -1,3 +1,4 @@
+pub mod Phase
 pub mod SpinodalStep
 pub mod DensityStep
 pub mod StableStep

@@ -9,18 +9,14 @@ use Rattle.solver_density.specs.declared.types.Nearest.TheVariants.{HighDensity,
 use Rattle.solver_density.specs.declared.types.Both.{Both}
 use Rattle.solver_density.specs.declared.types.Both.TheVariants.{BelowConvex, AboveConcave}
 use Rattle.solver_step.specs.declared.types.SpinodalSpot.{SpinodalSpot}
-use Rattle.solver_step.specs.declared.types.SpinodalPlace.{SpinodalPlace}
-use Rattle.solver_step.specs.declared.types.SpinodalPlace.TheVariants as Spinodal
-use Rattle.solver_step.specs.declared.types.Phase.{Phase}
-use Rattle.solver_step.specs.declared.types.Phase.TheVariants.{Found, Failed}
+use Rattle.solver.specs.Answer.{Progress}
+use Rattle.std.specs.declared.ops.ControlFlow.TheVariants.{Break, Continue}
+use Rattle.solver_step.specs.Phase.{Phase, Standing}
+use Rattle.std.specs.Prelude.{Ok, Err}
 use Rattle.solver_step.specs.declared.types.DensitySpot.{DensitySpot}
 use Rattle.solver_step.specs.declared.types.DensitySpot.TheVariants.{First, Slope, Curvature, NearestSpinodal, LiquidSpinodal, VaporSpinodal}
-use Rattle.solver_step.specs.declared.types.DensityPlace.{DensityPlace}
-use Rattle.solver_step.specs.declared.types.DensityPlace.TheVariants as Density
 use Rattle.solver_step.specs.declared.types.StableSpot.{StableSpot}
 use Rattle.solver_step.specs.declared.types.StableSpot.TheVariants.{LiquidSearch, VaporSearch, LiquidPotential, VaporPotential}
-use Rattle.solver_step.specs.declared.types.StablePlace.{StablePlace}
-use Rattle.solver_step.specs.declared.types.StablePlace.TheVariants as Stable
 use Rattle.solver_step.specs.DensityStep.{phase_answer}
 
 -- ---- the detours
@@ -48,19 +44,19 @@ spot_numbers tag left way rounds x y =
     }
 
 -- ---- kinds 3 and 4: tag 0 is the end, any other a round
-unfoldable pub spinodal_numbers : SpinodalPlace → Numbers
-spinodal_numbers (Spinodal.Ended a) = ended_numbers a
-spinodal_numbers (Spinodal.At s) = spot_numbers 1 0 0 s.rounds s.rho f0
+unfoldable pub spinodal_numbers : Progress SpinodalSpot → Numbers
+spinodal_numbers (Break a) = ended_numbers a
+spinodal_numbers (Continue s) = spot_numbers 1 0 0 s.rounds s.rho f0
 
 unfoldable pub spinodal_spot_by : Numbers → SpinodalSpot
 spinodal_spot_by n = record { rounds = n.counters.rounds; rho = n.values.first }
 
-unfoldable pub spinodal_place_by : Numbers → SpinodalPlace
-spinodal_place_by n = cond (eqb n.counters.tag 0) (Spinodal.Ended (answer_by n.counters.status n.values)) (Spinodal.At (spinodal_spot_by n))
+unfoldable pub spinodal_place_by : Numbers → Progress SpinodalSpot
+spinodal_place_by n = cond (eqb n.counters.tag 0) (Break (answer_by n.counters.status n.values)) (Continue (spinodal_spot_by n))
 
 -- ---- kind 1: tag 0 is the end, 1 to 6 the places in the order of their type
 unfoldable pub phase_by : (status : ℕ) → Float → Phase
-phase_by status ρ = cond (eqb status 0) (Found ρ) (Failed (refusal_by status))
+phase_by status ρ = cond (eqb status 0) (Ok ρ) (Err (refusal_by status))
 
 unfoldable pub density_spot_numbers : DensitySpot → Numbers
 density_spot_numbers First = spot_numbers 1 0 0 0 f0 f0
@@ -79,12 +75,12 @@ density_spot_by n =
     (cond (eqb n.counters.tag 5) (LiquidSpinodal n.counters.left (both_by n.counters.way) (spinodal_spot_by n))
     (VaporSpinodal n.counters.left (both_by n.counters.way) n.values.second (spinodal_spot_by n))))))
 
-unfoldable pub density_numbers : DensityPlace → Numbers
-density_numbers (Density.Ended p) = ended_numbers (phase_answer p)
-density_numbers (Density.At s) = density_spot_numbers s
+unfoldable pub density_numbers : Standing DensitySpot → Numbers
+density_numbers (Break p) = ended_numbers (phase_answer p)
+density_numbers (Continue s) = density_spot_numbers s
 
-unfoldable pub density_place_by : Numbers → DensityPlace
-density_place_by n = cond (eqb n.counters.tag 0) (Density.Ended (phase_by n.counters.status n.values.first)) (Density.At (density_spot_by n))
+unfoldable pub density_place_by : Numbers → Standing DensitySpot
+density_place_by n = cond (eqb n.counters.tag 0) (Break (phase_by n.counters.status n.values.first)) (Continue (density_spot_by n))
 
 -- ---- kind 2: stage 0 is the end, 1 the liquid's search, 2 the vapour's with the liquid's end beside it, 3 and 4 the potentials
 unfoldable pub staged : (stage status : ℕ) (z : Float) → Numbers → Numbers
@@ -102,12 +98,12 @@ potential_numbers stage x y z =
       values = record { first = x; second = y; third = z };
     }
 
-unfoldable pub stable_numbers : StablePlace → Numbers
-stable_numbers (Stable.Ended p) = ended_numbers (phase_answer p)
-stable_numbers (Stable.At (LiquidSearch s)) = staged 1 0 f0 (density_spot_numbers s)
-stable_numbers (Stable.At (VaporSearch liquid s)) = staged 2 (status_of (phase_answer liquid)) (values_of (phase_answer liquid)).first (density_spot_numbers s)
-stable_numbers (Stable.At (LiquidPotential l v)) = potential_numbers 3 l v f0
-stable_numbers (Stable.At (VaporPotential l v μl)) = potential_numbers 4 l v μl
+unfoldable pub stable_numbers : Standing StableSpot → Numbers
+stable_numbers (Break p) = ended_numbers (phase_answer p)
+stable_numbers (Continue (LiquidSearch s)) = staged 1 0 f0 (density_spot_numbers s)
+stable_numbers (Continue (VaporSearch liquid s)) = staged 2 (status_of (phase_answer liquid)) (values_of (phase_answer liquid)).first (density_spot_numbers s)
+stable_numbers (Continue (LiquidPotential l v)) = potential_numbers 3 l v f0
+stable_numbers (Continue (VaporPotential l v μl)) = potential_numbers 4 l v μl
 
 unfoldable pub stable_spot_by : Numbers → StableSpot
 stable_spot_by n =
@@ -115,5 +111,5 @@ stable_spot_by n =
     (cond (eqb n.counters.stage 2) (VaporSearch (phase_by n.counters.status n.values.third) (density_spot_by n))
     (cond (eqb n.counters.stage 3) (LiquidPotential n.values.first n.values.second) (VaporPotential n.values.first n.values.second n.values.third)))
 
-unfoldable pub stable_place_by : Numbers → StablePlace
-stable_place_by n = cond (eqb n.counters.stage 0) (Stable.Ended (phase_by n.counters.status n.values.first)) (Stable.At (stable_spot_by n))
+unfoldable pub stable_place_by : Numbers → Standing StableSpot
+stable_place_by n = cond (eqb n.counters.stage 0) (Break (phase_by n.counters.status n.values.first)) (Continue (stable_spot_by n))

@@ -4,54 +4,55 @@ ghost use Rattle.solver.specs.Evaluated.{evaluated};
 ghost use Rattle.solver_step.specs.DensityStep.{phase_answer, slope_at, arrived_at, slope_on, density_at, first_on, nearest_on, vapor_on, liquid_on, detour_at, curvature_on, density_next, density_begin};
 
 use crate::spinodal::{branch_begin, branch_next, spinodal_next, spinodal_start};
-use crate::types::{DensityPlace, DensitySpot, Phase, SpinodalPlace};
+use crate::types::{DensitySpot, Phase, SpinodalSpot, Standing};
 use eos::Blend;
 use evaluations::Pressure;
-use solver::{Answer, Refusal};
+use solver::{Answer, Progress, Refusal};
 use solver_density::{Both, Branch, Conditions, Detour, Nearest, SlopeOutcome};
+use std::ops::ControlFlow;
 
 // how a density search ended, as an answer
 pub fn phase_answer(phase: Phase) -> Answer
     ensures { result ≡ phase_answer phase }
 {
     match phase {
-        Phase::Found(rho) => solver_density::found_density(rho),
-        Phase::Failed(refusal) => Answer::Refused(refusal),
+        Ok(rho) => solver_density::found_density(rho),
+        Err(refusal) => Err(refusal),
     }
 }
 
 // the next round, `left` being left with it
-fn slope_at(left: u64, rho: f64) -> DensityPlace
+fn slope_at(left: u64, rho: f64) -> Standing<DensitySpot>
     ensures { result ≡ slope_at left rho }
 {
     if left == 0 {
-        return DensityPlace::Ended(Phase::Failed(Refusal::NotConverged));
+        return ControlFlow::Break(Err(Refusal::NotConverged));
     }
-    DensityPlace::At(DensitySpot::Slope {
+    ControlFlow::Continue(DensitySpot::Slope {
         left: left - 1,
         rho,
     })
 }
 
 // a detour's end
-fn arrived_at(left: u64, answer: Answer) -> DensityPlace
+fn arrived_at(left: u64, answer: Answer) -> Standing<DensitySpot>
     ensures { result ≡ arrived_at left answer }
 {
     match answer {
-        Answer::Found(found) => slope_at(left, found.first),
-        Answer::Refused(refusal) => DensityPlace::Ended(Phase::Failed(refusal)),
+        Ok(found) => slope_at(left, found.first),
+        Err(refusal) => ControlFlow::Break(Err(refusal)),
     }
 }
 
 // where a round at rho leads, `left` being left after it
-fn slope_on(left: u64, rho: f64, outcome: SlopeOutcome) -> DensityPlace
+fn slope_on(left: u64, rho: f64, outcome: SlopeOutcome) -> Standing<DensitySpot>
     ensures { result ≡ slope_on left rho outcome }
 {
     match outcome {
-        SlopeOutcome::NotFinite => DensityPlace::Ended(Phase::Failed(Refusal::NotFinite)),
-        SlopeOutcome::Converged(found) => DensityPlace::Ended(Phase::Found(found)),
+        SlopeOutcome::NotFinite => ControlFlow::Break(Err(Refusal::NotFinite)),
+        SlopeOutcome::Converged(found) => ControlFlow::Break(Ok(found)),
         SlopeOutcome::Next(next) => slope_at(left, next),
-        SlopeOutcome::Unstable(error) => DensityPlace::At(DensitySpot::Curvature {
+        SlopeOutcome::Unstable(error) => ControlFlow::Continue(DensitySpot::Curvature {
             left,
             rho,
             error,
@@ -60,14 +61,14 @@ fn slope_on(left: u64, rho: f64, outcome: SlopeOutcome) -> DensityPlace
 }
 
 // where the first round leads
-fn first_on(c: Conditions, outcome: SlopeOutcome) -> DensityPlace
+fn first_on(c: Conditions, outcome: SlopeOutcome) -> Standing<DensitySpot>
     ensures { result ≡ first_on c outcome }
 {
     match outcome {
-        SlopeOutcome::NotFinite => DensityPlace::Ended(Phase::Failed(Refusal::NotFinite)),
-        SlopeOutcome::Converged(found) => DensityPlace::Ended(Phase::Found(found)),
+        SlopeOutcome::NotFinite => ControlFlow::Break(Err(Refusal::NotFinite)),
+        SlopeOutcome::Converged(found) => ControlFlow::Break(Ok(found)),
         SlopeOutcome::Next(next) => slope_at(49, next),
-        SlopeOutcome::Unstable(_) => DensityPlace::At(DensitySpot::Slope {
+        SlopeOutcome::Unstable(_) => ControlFlow::Continue(DensitySpot::Slope {
             left: 49,
             rho: solver_density::correct(c),
         }),
@@ -75,27 +76,42 @@ fn first_on(c: Conditions, outcome: SlopeOutcome) -> DensityPlace
 }
 
 // where the nearest spinodal's search stands, or what it leads to
-fn nearest_on(c: Conditions, left: u64, way: Nearest, place: SpinodalPlace) -> DensityPlace
+fn nearest_on(
+    c: Conditions,
+    left: u64,
+    way: Nearest,
+    place: Progress<SpinodalSpot>,
+) -> Standing<DensitySpot>
     ensures { result ≡ nearest_on c left way place }
 {
     match place {
-        SpinodalPlace::Ended(answer) => match answer {
-            Answer::Found(sp) => arrived_at(left, solver_density::after_nearest(c, way, sp)),
-            Answer::Refused(refusal) => DensityPlace::Ended(Phase::Failed(refusal)),
+        ControlFlow::Break(answer) => match answer {
+            Ok(sp) => arrived_at(left, solver_density::after_nearest(c, way, sp)),
+            Err(refusal) => ControlFlow::Break(Err(refusal)),
         },
-        SpinodalPlace::At(at) => DensityPlace::At(DensitySpot::NearestSpinodal { left, way, at }),
+        ControlFlow::Continue(at) => ControlFlow::Continue(DensitySpot::NearestSpinodal {
+            left,
+            way,
+            at,
+        }),
     }
 }
 
-fn vapor_on(c: Conditions, left: u64, way: Both, liquid: f64, place: SpinodalPlace) -> DensityPlace
+fn vapor_on(
+    c: Conditions,
+    left: u64,
+    way: Both,
+    liquid: f64,
+    place: Progress<SpinodalSpot>,
+) -> Standing<DensitySpot>
     ensures { result ≡ vapor_on c left way liquid place }
 {
     match place {
-        SpinodalPlace::Ended(answer) => match answer {
-            Answer::Found(v) => slope_at(left, solver_density::after_both(c, way, liquid, v)),
-            Answer::Refused(refusal) => DensityPlace::Ended(Phase::Failed(refusal)),
+        ControlFlow::Break(answer) => match answer {
+            Ok(v) => slope_at(left, solver_density::after_both(c, way, liquid, v)),
+            Err(refusal) => ControlFlow::Break(Err(refusal)),
         },
-        SpinodalPlace::At(at) => DensityPlace::At(DensitySpot::VaporSpinodal {
+        ControlFlow::Continue(at) => ControlFlow::Continue(DensitySpot::VaporSpinodal {
             left,
             way,
             liquid,
@@ -104,23 +120,32 @@ fn vapor_on(c: Conditions, left: u64, way: Both, liquid: f64, place: SpinodalPla
     }
 }
 
-fn liquid_on(c: Conditions, left: u64, way: Both, place: SpinodalPlace) -> DensityPlace
+fn liquid_on(
+    c: Conditions,
+    left: u64,
+    way: Both,
+    place: Progress<SpinodalSpot>,
+) -> Standing<DensitySpot>
     ensures { result ≡ liquid_on c left way place }
 {
     match place {
-        SpinodalPlace::Ended(answer) => match answer {
-            Answer::Found(l) => {
+        ControlFlow::Break(answer) => match answer {
+            Ok(l) => {
                 let begin = branch_begin(c.maxdensity, Branch::Vapor);
                 vapor_on(c, left, way, l.second, begin)
             }
-            Answer::Refused(refusal) => DensityPlace::Ended(Phase::Failed(refusal)),
+            Err(refusal) => ControlFlow::Break(Err(refusal)),
         },
-        SpinodalPlace::At(at) => DensityPlace::At(DensitySpot::LiquidSpinodal { left, way, at }),
+        ControlFlow::Continue(at) => ControlFlow::Continue(DensitySpot::LiquidSpinodal {
+            left,
+            way,
+            at,
+        }),
     }
 }
 
 // a detour begins
-fn detour_at(c: Conditions, left: u64, detour: Detour) -> DensityPlace
+fn detour_at(c: Conditions, left: u64, detour: Detour) -> Standing<DensitySpot>
     ensures { result ≡ detour_at c left detour }
 {
     match detour {
@@ -129,18 +154,24 @@ fn detour_at(c: Conditions, left: u64, detour: Detour) -> DensityPlace
     }
 }
 
-fn curvature_on(c: Conditions, left: u64, rho: f64, error: f64, y: Pressure) -> DensityPlace
+fn curvature_on(
+    c: Conditions,
+    left: u64,
+    rho: f64,
+    error: f64,
+    y: Pressure,
+) -> Standing<DensitySpot>
     ensures { result ≡ curvature_on c left rho error y }
 {
     if solver_density::all_finite(y) {
         let detour = solver_density::detour_of(c.maxdensity, rho, error, y.d2p_drho2);
         return detour_at(c, left, detour);
     }
-    DensityPlace::Ended(Phase::Failed(Refusal::NotFinite))
+    ControlFlow::Break(Err(Refusal::NotFinite))
 }
 
 // the one evaluation at a spot, and where it leads
-pub fn density_next(blend: Blend, c: Conditions, spot: DensitySpot) -> DensityPlace
+pub fn density_next(blend: Blend, c: Conditions, spot: DensitySpot) -> Standing<DensitySpot>
     ensures { result ≡ density_next c (evaluated blend) spot }
 {
     let maxdensity = c.maxdensity;
@@ -217,12 +248,12 @@ pub fn density_at(c: Conditions, spot: DensitySpot) -> f64
 }
 
 // where a search begins
-pub fn density_begin(c: Conditions) -> DensityPlace
+pub fn density_begin(c: Conditions) -> Standing<DensitySpot>
     ensures { result ≡ density_begin c }
 {
     let start = c.start;
     if start <= 0.0 {
-        return DensityPlace::Ended(Phase::Failed(Refusal::StartNotPositive));
+        return ControlFlow::Break(Err(Refusal::StartNotPositive));
     }
-    DensityPlace::At(DensitySpot::First)
+    ControlFlow::Continue(DensitySpot::First)
 }

@@ -14,6 +14,4 @@ pub use crate::stored::{
     density_numbers, density_place_by, spinodal_numbers, spinodal_place_by, stable_numbers,
     stable_place_by,
 };
-pub use crate::types::{
-    DensityPlace, DensitySpot, Phase, SpinodalPlace, SpinodalSpot, StablePlace, StableSpot,
-};
+pub use crate::types::{DensitySpot, Phase, SpinodalSpot, StableSpot, Standing};

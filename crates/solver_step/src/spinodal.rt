@@ -3,22 +3,23 @@ ghost use Rattle.std.specs.Prelude.{◌≡◌};
 ghost use Rattle.solver.specs.Evaluated.{evaluated};
 ghost use Rattle.solver_step.specs.SpinodalStep.{spinodal_on, spinodal_start, spinodal_next, branch_place, branch_begin, branch_next};
 
-use crate::types::{SpinodalPlace, SpinodalSpot};
+use crate::types::SpinodalSpot;
 use eos::Blend;
-use solver::{Answer, Refusal};
-use solver_density::{Branch, Outcome};
+use solver::{Progress, Refusal};
+use solver_density::Branch;
+use std::ops::ControlFlow;
 
 // where a round leads, `rounds` being left
-fn spinodal_on(rounds: u64, outcome: Outcome) -> SpinodalPlace
+fn spinodal_on(rounds: u64, outcome: Progress<f64>) -> Progress<SpinodalSpot>
     ensures { result ≡ spinodal_on rounds outcome }
 {
     match outcome {
-        Outcome::End(answer) => SpinodalPlace::Ended(answer),
-        Outcome::Next(rho) => {
+        ControlFlow::Break(answer) => ControlFlow::Break(answer),
+        ControlFlow::Continue(rho) => {
             if rounds == 0 {
-                return SpinodalPlace::Ended(Answer::Refused(Refusal::NotConverged));
+                return ControlFlow::Break(Err(Refusal::NotConverged));
             }
-            SpinodalPlace::At(SpinodalSpot {
+            ControlFlow::Continue(SpinodalSpot {
                 rounds: rounds - 1,
                 rho,
             })
@@ -27,17 +28,22 @@ fn spinodal_on(rounds: u64, outcome: Outcome) -> SpinodalPlace
 }
 
 // where a search from rho begins
-pub fn spinodal_start(rho: f64) -> SpinodalPlace
+pub fn spinodal_start(rho: f64) -> Progress<SpinodalSpot>
     ensures { result ≡ spinodal_start rho }
 {
     if rho <= 0.0 {
-        return SpinodalPlace::Ended(Answer::Refused(Refusal::StartNotPositive));
+        return ControlFlow::Break(Err(Refusal::StartNotPositive));
     }
-    SpinodalPlace::At(SpinodalSpot { rounds: 29, rho })
+    ControlFlow::Continue(SpinodalSpot { rounds: 29, rho })
 }
 
 // the one evaluation at a spot, and where it leads
-pub fn spinodal_next(blend: Blend, maxdensity: f64, t: f64, spot: SpinodalSpot) -> SpinodalPlace
+pub fn spinodal_next(
+    blend: Blend,
+    maxdensity: f64,
+    t: f64,
+    spot: SpinodalSpot,
+) -> Progress<SpinodalSpot>
     ensures { result ≡ spinodal_next maxdensity t (evaluated blend) spot }
 {
     let rho = spot.rho;
@@ -49,21 +55,19 @@ pub fn spinodal_next(blend: Blend, maxdensity: f64, t: f64, spot: SpinodalSpot) 
 }
 
 // the branch's answer at the end of the spinodal's search
-fn branch_place(branch: Branch, place: SpinodalPlace) -> SpinodalPlace
+fn branch_place(branch: Branch, place: Progress<SpinodalSpot>) -> Progress<SpinodalSpot>
     ensures { result ≡ branch_place branch place }
 {
     match place {
-        SpinodalPlace::Ended(answer) => match answer {
-            Answer::Found(found) => SpinodalPlace::Ended(solver_density::branch_answer(
-                branch, found,
-            )),
-            Answer::Refused(refusal) => SpinodalPlace::Ended(Answer::Refused(refusal)),
+        ControlFlow::Break(answer) => match answer {
+            Ok(found) => ControlFlow::Break(solver_density::branch_answer(branch, found)),
+            Err(refusal) => ControlFlow::Break(Err(refusal)),
         },
-        SpinodalPlace::At(spot) => SpinodalPlace::At(spot),
+        ControlFlow::Continue(spot) => ControlFlow::Continue(spot),
     }
 }
 
-pub fn branch_begin(maxdensity: f64, branch: Branch) -> SpinodalPlace
+pub fn branch_begin(maxdensity: f64, branch: Branch) -> Progress<SpinodalSpot>
     ensures { result ≡ branch_begin maxdensity branch }
 {
     branch_place(
@@ -78,7 +82,7 @@ pub fn branch_next(
     t: f64,
     branch: Branch,
     spot: SpinodalSpot,
-) -> SpinodalPlace
+) -> Progress<SpinodalSpot>
     ensures { result ≡ branch_next maxdensity t branch (evaluated blend) spot }
 {
     branch_place(branch, spinodal_next(blend, maxdensity, t, spot))

@@ -4,80 +4,97 @@ ghost use Rattle.solver.specs.Evaluated.{evaluated};
 ghost use Rattle.solver_step.specs.StableStep.{phases_on, vapor_search_on, liquid_potential_on, vapor_potential_on, stable_at, liquid_search_on, stable_next, stable_begin};
 
 use crate::density::{density_at, density_begin, density_next};
-use crate::types::{DensityPlace, Phase, StablePlace, StableSpot};
+use crate::types::{DensitySpot, Phase, StableSpot, Standing};
 use eos::Blend;
 use solver::{DensityInitialization, Refusal};
+use std::ops::ControlFlow;
 
 // both phases searched: the potentials are next, or the end
-fn phases_on(liquid: Phase, vapor: Phase) -> StablePlace
+fn phases_on(liquid: Phase, vapor: Phase) -> Standing<StableSpot>
     ensures { result ≡ phases_on liquid vapor }
 {
     match liquid {
-        Phase::Found(l) => match vapor {
-            Phase::Found(v) => StablePlace::At(StableSpot::LiquidPotential {
+        Ok(l) => match vapor {
+            Ok(v) => ControlFlow::Continue(StableSpot::LiquidPotential {
                 liquid: l,
                 vapor: v,
             }),
-            Phase::Failed(_) => StablePlace::Ended(Phase::Found(l)),
+            Err(_) => ControlFlow::Break(Ok(l)),
         },
-        Phase::Failed(_) => match vapor {
-            Phase::Found(v) => StablePlace::Ended(Phase::Found(v)),
-            Phase::Failed(_) => StablePlace::Ended(Phase::Failed(Refusal::BothPhasesFailed)),
+        Err(_) => match vapor {
+            Ok(v) => ControlFlow::Break(Ok(v)),
+            Err(_) => ControlFlow::Break(Err(Refusal::BothPhasesFailed)),
         },
     }
 }
 
-fn vapor_search_on(liquid: Phase, place: DensityPlace) -> StablePlace
+fn vapor_search_on(liquid: Phase, place: Standing<DensitySpot>) -> Standing<StableSpot>
     ensures { result ≡ vapor_search_on liquid place }
 {
     match place {
-        DensityPlace::Ended(vapor) => phases_on(liquid, vapor),
-        DensityPlace::At(at) => StablePlace::At(StableSpot::VaporSearch { liquid, at }),
+        ControlFlow::Break(vapor) => phases_on(liquid, vapor),
+        ControlFlow::Continue(at) => ControlFlow::Continue(StableSpot::VaporSearch { liquid, at }),
     }
 }
 
-fn liquid_search_on(maxdensity: f64, t: f64, p: f64, place: DensityPlace) -> StablePlace
+fn liquid_search_on(
+    maxdensity: f64,
+    t: f64,
+    p: f64,
+    place: Standing<DensitySpot>,
+) -> Standing<StableSpot>
     ensures { result ≡ liquid_search_on maxdensity t p place }
 {
     match place {
-        DensityPlace::Ended(liquid) => {
+        ControlFlow::Break(liquid) => {
             if p < maxdensity * t {
                 let c = solver_density::conditions(maxdensity, t, p, DensityInitialization::Vapor);
                 return vapor_search_on(liquid, density_begin(c));
             }
-            StablePlace::Ended(liquid)
+            ControlFlow::Break(liquid)
         }
-        DensityPlace::At(at) => StablePlace::At(StableSpot::LiquidSearch(at)),
+        ControlFlow::Continue(at) => ControlFlow::Continue(StableSpot::LiquidSearch(at)),
     }
 }
 
-fn liquid_potential_on(liquid: f64, vapor: f64, potential: f64) -> StablePlace
+fn liquid_potential_on(liquid: f64, vapor: f64, potential: f64) -> Standing<StableSpot>
     ensures { result ≡ liquid_potential_on liquid vapor potential }
 {
     if float::is_finite(potential) {
-        return StablePlace::At(StableSpot::VaporPotential {
+        return ControlFlow::Continue(StableSpot::VaporPotential {
             liquid,
             vapor,
             potential,
         });
     }
-    StablePlace::Ended(Phase::Failed(Refusal::NotFinite))
+    ControlFlow::Break(Err(Refusal::NotFinite))
 }
 
-fn vapor_potential_on(liquid: f64, vapor: f64, of_liquid: f64, of_vapor: f64) -> StablePlace
+fn vapor_potential_on(
+    liquid: f64,
+    vapor: f64,
+    of_liquid: f64,
+    of_vapor: f64,
+) -> Standing<StableSpot>
     ensures { result ≡ vapor_potential_on liquid vapor of_liquid of_vapor }
 {
     if float::is_finite(of_vapor) {
         if of_liquid > of_vapor {
-            return StablePlace::Ended(Phase::Found(vapor));
+            return ControlFlow::Break(Ok(vapor));
         }
-        return StablePlace::Ended(Phase::Found(liquid));
+        return ControlFlow::Break(Ok(liquid));
     }
-    StablePlace::Ended(Phase::Failed(Refusal::NotFinite))
+    ControlFlow::Break(Err(Refusal::NotFinite))
 }
 
 // the one evaluation at a spot, and where it leads
-pub fn stable_next(blend: Blend, maxdensity: f64, t: f64, p: f64, spot: StableSpot) -> StablePlace
+pub fn stable_next(
+    blend: Blend,
+    maxdensity: f64,
+    t: f64,
+    p: f64,
+    spot: StableSpot,
+) -> Standing<StableSpot>
     ensures { result ≡ stable_next maxdensity t p (evaluated blend) spot }
 {
     match spot {
@@ -132,7 +149,7 @@ pub fn stable_at(maxdensity: f64, t: f64, p: f64, spot: StableSpot) -> f64
 }
 
 // where a search begins
-pub fn stable_begin(maxdensity: f64, t: f64, p: f64) -> StablePlace
+pub fn stable_begin(maxdensity: f64, t: f64, p: f64) -> Standing<StableSpot>
     ensures { result ≡ stable_begin maxdensity t p }
 {
     let c = solver_density::conditions(maxdensity, t, p, DensityInitialization::Liquid);

@@ -1,13 +1,13 @@
 // The places of kinds 1 to 4 as numbers and back.
 ghost use Rattle.std.specs.Prelude.{◌≡◌};
+ghost use Rattle.std.specs.declared.ops.ControlFlow.TheVariants.{Continue};
 ghost use Rattle.solver_step.specs.Stored.{nearest_number, nearest_by, both_number, both_by, spot_numbers, spinodal_numbers, spinodal_spot_by, spinodal_place_by, phase_by, density_spot_numbers, density_spot_by, density_numbers, density_place_by, staged as staged_numbers, potential_numbers, stable_numbers, stable_spot_by, stable_place_by};
 
 use crate::density::phase_answer;
-use crate::types::{
-    DensityPlace, DensitySpot, Phase, SpinodalPlace, SpinodalSpot, StablePlace, StableSpot,
-};
-use solver::{Counters, Numbers, Values};
+use crate::types::{DensitySpot, Phase, SpinodalSpot, StableSpot, Standing};
+use solver::{Counters, Numbers, Progress, Values};
 use solver_density::{Both, Nearest};
+use std::ops::ControlFlow;
 
 fn nearest_number(way: Nearest) -> u64
     ensures { result ≡ nearest_number way }
@@ -68,12 +68,12 @@ fn spot_numbers(tag: u64, left: u64, way: u64, rounds: u64, x: f64, y: f64) -> N
     Numbers { counters, values }
 }
 
-pub fn spinodal_numbers(place: SpinodalPlace) -> Numbers
+pub fn spinodal_numbers(place: Progress<SpinodalSpot>) -> Numbers
     ensures { result ≡ spinodal_numbers place }
 {
     match place {
-        SpinodalPlace::Ended(answer) => solver::ended_numbers(answer),
-        SpinodalPlace::At(at) => spot_numbers(1, 0, 0, at.rounds, at.rho, 0.0),
+        ControlFlow::Break(answer) => solver::ended_numbers(answer),
+        ControlFlow::Continue(at) => spot_numbers(1, 0, 0, at.rounds, at.rho, 0.0),
     }
 }
 
@@ -88,25 +88,25 @@ fn spinodal_spot_by(n: Numbers) -> SpinodalSpot
     }
 }
 
-pub fn spinodal_place_by(n: Numbers) -> SpinodalPlace
+pub fn spinodal_place_by(n: Numbers) -> Progress<SpinodalSpot>
     ensures { result ≡ spinodal_place_by n }
 {
     let counters = n.counters;
     let values = n.values;
     let tag = counters.tag;
     if tag == 0 {
-        return SpinodalPlace::Ended(solver::answer_by(counters.status, values));
+        return ControlFlow::Break(solver::answer_by(counters.status, values));
     }
-    SpinodalPlace::At(spinodal_spot_by(n))
+    ControlFlow::Continue(spinodal_spot_by(n))
 }
 
 fn phase_by(status: u64, rho: f64) -> Phase
     ensures { result ≡ phase_by status rho }
 {
     if status == 0 {
-        return Phase::Found(rho);
+        return Ok(rho);
     }
-    Phase::Failed(solver::refusal_by(status))
+    Err(solver::refusal_by(status))
 }
 
 fn density_spot_numbers(spot: DensitySpot) -> Numbers
@@ -172,25 +172,25 @@ fn density_spot_by(n: Numbers) -> DensitySpot
     }
 }
 
-pub fn density_numbers(place: DensityPlace) -> Numbers
+pub fn density_numbers(place: Standing<DensitySpot>) -> Numbers
     ensures { result ≡ density_numbers place }
 {
     match place {
-        DensityPlace::Ended(phase) => solver::ended_numbers(phase_answer(phase)),
-        DensityPlace::At(spot) => density_spot_numbers(spot),
+        ControlFlow::Break(phase) => solver::ended_numbers(phase_answer(phase)),
+        ControlFlow::Continue(spot) => density_spot_numbers(spot),
     }
 }
 
-pub fn density_place_by(n: Numbers) -> DensityPlace
+pub fn density_place_by(n: Numbers) -> Standing<DensitySpot>
     ensures { result ≡ density_place_by n }
 {
     let counters = n.counters;
     let values = n.values;
     let tag = counters.tag;
     if tag == 0 {
-        return DensityPlace::Ended(phase_by(counters.status, values.first));
+        return ControlFlow::Break(phase_by(counters.status, values.first));
     }
-    DensityPlace::At(density_spot_by(n))
+    ControlFlow::Continue(density_spot_by(n))
 }
 
 fn staged(stage: u64, status: u64, z: f64, n: Numbers) -> Numbers
@@ -234,7 +234,7 @@ fn potential_numbers(stage: u64, x: f64, y: f64, z: f64) -> Numbers
 }
 
 fn stable_spot_numbers(spot: StableSpot) -> Numbers
-    ensures { result ≡ stable_numbers (StablePlace.At spot) }
+    ensures { result ≡ stable_numbers (Continue spot) }
 {
     match spot {
         StableSpot::LiquidSearch(at) => staged(1, 0, 0.0, density_spot_numbers(at)),
@@ -257,12 +257,12 @@ fn stable_spot_numbers(spot: StableSpot) -> Numbers
     }
 }
 
-pub fn stable_numbers(place: StablePlace) -> Numbers
+pub fn stable_numbers(place: Standing<StableSpot>) -> Numbers
     ensures { result ≡ stable_numbers place }
 {
     match place {
-        StablePlace::Ended(phase) => solver::ended_numbers(phase_answer(phase)),
-        StablePlace::At(spot) => stable_spot_numbers(spot),
+        ControlFlow::Break(phase) => solver::ended_numbers(phase_answer(phase)),
+        ControlFlow::Continue(spot) => stable_spot_numbers(spot),
     }
 }
 
@@ -295,14 +295,14 @@ fn stable_spot_by(n: Numbers) -> StableSpot
     }
 }
 
-pub fn stable_place_by(n: Numbers) -> StablePlace
+pub fn stable_place_by(n: Numbers) -> Standing<StableSpot>
     ensures { result ≡ stable_place_by n }
 {
     let counters = n.counters;
     let values = n.values;
     let stage = counters.stage;
     if stage == 0 {
-        return StablePlace::Ended(phase_by(counters.status, values.first));
+        return ControlFlow::Break(phase_by(counters.status, values.first));
     }
-    StablePlace::At(stable_spot_by(n))
+    ControlFlow::Continue(stable_spot_by(n))
 }

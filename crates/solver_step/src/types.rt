@@ -1,6 +1,7 @@
 // The places of a search that ask for an evaluation, each with the numbers that it goes on from.
-use solver::{Answer, Refusal};
+use solver::Refusal;
 use solver_density::{Both, Nearest};
+use std::ops::ControlFlow;
 
 // In a spinodal search, of kind 3 or 4 or inside a density search: the rounds left after this one, and the density.
 #[derive(Clone, Copy)]
@@ -9,18 +10,11 @@ pub struct SpinodalSpot {
     pub rho: f64,
 }
 
-#[derive(Clone, Copy)]
-pub enum SpinodalPlace {
-    Ended(Answer),
-    At(SpinodalSpot),
-}
+// How a density search ended: the density found, or why it failed.
+pub type Phase = Result<f64, Refusal>;
 
-// How a density search ended.
-#[derive(Clone, Copy)]
-pub enum Phase {
-    Found(f64),
-    Failed(Refusal),
-}
+// Where a density search stands, alone or as a part of kind 2: how it ended, or what it goes on from.
+pub type Standing<S> = ControlFlow<Phase, S>;
 
 // In a density search, of kind 1 or inside kind 2. `left` is the rounds left after this one.
 #[derive(Clone, Copy)]
@@ -53,12 +47,6 @@ pub enum DensitySpot {
     },
 }
 
-#[derive(Clone, Copy)]
-pub enum DensityPlace {
-    Ended(Phase),
-    At(DensitySpot),
-}
-
 // In the search of kind 2: a phase's search, or one of the two potentials.
 #[derive(Clone, Copy)]
 pub enum StableSpot {
@@ -76,10 +64,4 @@ pub enum StableSpot {
         vapor: f64,
         potential: f64,
     },
-}
-
-#[derive(Clone, Copy)]
-pub enum StablePlace {
-    Ended(Phase),
-    At(StableSpot),
 }

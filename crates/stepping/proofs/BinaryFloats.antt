@@ -12,20 +12,18 @@ use Rattle.linear.specs.declared.types.Solved3.TheVariants as Three
 use Rattle.solver.specs.Answer.{values_of}
 use Rattle.solver.specs.Stored.{ended_numbers}
 use Rattle.solver.specs.Search.{Evaluator}
-use Rattle.solver_critical.specs.declared.types.Start.{Start}
-use Rattle.solver_critical.specs.declared.types.Start.TheVariants.{None, Given}
+use Rattle.std.specs.declared.option.Option.{Option}
+use Rattle.std.specs.declared.option.Option.TheVariants.{None, Some}
 use Rattle.solver_critical.specs.CriticalPoint.{solved, converged}
 use Rattle.solver_critical.specs.Rounds.{both_finite, finite6}
 use Rattle.solver_binary.specs.declared.types.Densities.{Densities}
 use Rattle.solver_binary.specs.declared.types.Unknowns.{Unknowns}
-use Rattle.solver_binary.specs.declared.types.OutcomeT.{OutcomeT}
-use Rattle.solver_binary.specs.declared.types.OutcomeT.TheVariants as T
-use Rattle.solver_binary.specs.declared.types.OutcomeP.{OutcomeP}
-use Rattle.solver_binary.specs.declared.types.OutcomeP.TheVariants as P
+use Rattle.solver.specs.Answer.{Progress}
+use Rattle.std.specs.declared.ops.ControlFlow.TheVariants.{Break, Continue}
 use Rattle.solver_binary.specs.CriticalPointBinary.{start_densities, answer_t, reduced_t, step_t, start_temperature, start_unknowns, answer_p, reduced_p, step_p, solved_p, converged_p}
 use Rattle.solver_binary.specs.Rounds.{stepped_t, solved_round_t, round_t, finite3, finite12, stepped_p, solved_round_p, round_p}
-use Rattle.solver_binary_step.specs.declared.types.TemperaturePlace.{TemperaturePlace}
-use Rattle.solver_binary_step.specs.declared.types.PressurePlace.{PressurePlace}
+use Rattle.solver_binary_step.specs.declared.types.TemperatureSpot.{TemperatureSpot}
+use Rattle.solver_binary_step.specs.declared.types.PressureSpot.{PressureSpot}
 use Rattle.solver_binary_step.specs.BinaryStep.{temperature_on, temperature_begin, temperature_at, temperature_next, pressure_on, pressure_begin, pressure_at, pressure_next}
 use Rattle.solver_binary_step.specs.Stored.{spot_numbers, temperature_numbers, temperature_place_by, pressure_numbers, pressure_place_by}
 use Rattle.solver_state.specs.declared.types.State.{State}
@@ -36,9 +34,9 @@ use Rattle.stepping.proofs.FloatLaws.{Fit, zero_fits, cond_keeps}
 use Rattle.stepping.proofs.CriticalFloats.{StartFits, Two, two, none, AnswerHeld, floored_held}
 
 -- ---- kind 8
-abbrev HeldT : OutcomeT → Type 0
-HeldT (T.End a) = AnswerHeld a
-HeldT (T.Next p) = Two p.rho0 p.rho1
+abbrev HeldT : Progress Densities → Type 0
+HeldT (Break a) = AnswerHeld a
+HeldT (Continue p) = Two p.rho0 p.rho1
 
 step_held_t : (maxdensity : Float) (p δ : Densities) → Two (step_t maxdensity p δ).rho0 (step_t maxdensity p δ).rho1
 unfolding step_t
@@ -58,21 +56,21 @@ round_held_t : (maxdensity : Float) (p : Densities) (y : Criticality) → HeldT 
 unfolding round_t values_of
 round_held_t maxdensity p y = cond_keeps HeldT (finite6 y) _ _ (solved_held_t maxdensity p y (solved y)) none
 
-on_held_t : (n : ℕ) (o : OutcomeT) → HeldT o → ValuesStorable (temperature_numbers (temperature_on n o)).values
+on_held_t : (n : ℕ) (o : Progress Densities) → HeldT o → ValuesStorable (temperature_numbers (temperature_on n o)).values
 unfolding temperature_on temperature_numbers spot_numbers ended_numbers values_of
-on_held_t n (T.End a) h = h
-on_held_t zero (T.Next p) h = none
-on_held_t (suc n) (T.Next p) h = h
+on_held_t n (Break a) h = h
+on_held_t zero (Continue p) h = none
+on_held_t (suc n) (Continue p) h = h
 
-pub temperature_begin_lem : (maxdensity z0 z1 t : Float) (density : Start) → FloatsStorable (start_of (CriticalPointBinaryT maxdensity z0 z1 t density))
+pub temperature_begin_lem : (maxdensity z0 z1 t : Float) (density : Option Float) → FloatsStorable (start_of (CriticalPointBinaryT maxdensity z0 z1 t density))
 unfolding start_of begin_of temperature_begin temperature_numbers spot_numbers start_densities
 temperature_begin_lem maxdensity z0 z1 t density = record { values = two (mul-fits binary64 z0 _) (mul-fits binary64 z1 _); latest = zero_fits }
 
-pub temperature_steps : (maxdensity z0 z1 t : Float) (density : Start) (ev : Evaluator) (s : State)
+pub temperature_steps : (maxdensity z0 z1 t : Float) (density : Option Float) (ev : Evaluator) (s : State)
     → FloatsStorable s → FloatsStorable (step_of (CriticalPointBinaryT maxdensity z0 z1 t density) ev s)
 unfolding step_of temperature_step temperature_place_by temperature_next temperature_at
 temperature_steps maxdensity z0 z1 t density ev s k =
-    cond_keeps (λ (p : TemperaturePlace). FloatsStorable (temperature_step maxdensity t ev p s)) (eqb s.numbers.counters.tag 0) _ _ k
+    cond_keeps (λ (p : Progress TemperatureSpot). FloatsStorable (temperature_step maxdensity t ev p s)) (eqb s.numbers.counters.tag 0) _ _ k
     (record { values = on_held_t _ _ (round_held_t maxdensity _ _); latest = add-fits binary64 _ _ })
 
 -- ---- kind 9
@@ -84,9 +82,9 @@ ThreeFit x y z = ValuesStorable (record { first = x; second = y; third = z })
 three : {x y z : Float} → Fit x → Fit y → Fit z → ThreeFit x y z
 three a b c = record { first = a; second = b; third = c }
 
-abbrev HeldP : OutcomeP → Type 0
-HeldP (P.End a) = AnswerHeld a
-HeldP (P.Next p) = ThreeFit p.t p.rho0 p.rho1
+abbrev HeldP : Progress Unknowns → Type 0
+HeldP (Break a) = AnswerHeld a
+HeldP (Continue p) = ThreeFit p.t p.rho0 p.rho1
 
 step_held_p : (maxdensity : Float) (p δ : Unknowns) → ThreeFit (step_p maxdensity p δ).t (step_p maxdensity p δ).rho0 (step_p maxdensity p δ).rho1
 unfolding step_p
@@ -106,24 +104,24 @@ round_held_p : (maxdensity : Float) (p : Unknowns) (y : PressureCriticality) →
 unfolding round_p values_of
 round_held_p maxdensity p y = cond_keeps HeldP (finite12 y) _ _ (solved_held_p maxdensity p y (solved_p y)) none
 
-on_held_p : (n : ℕ) (o : OutcomeP) → HeldP o → ValuesStorable (pressure_numbers (pressure_on n o)).values
+on_held_p : (n : ℕ) (o : Progress Unknowns) → HeldP o → ValuesStorable (pressure_numbers (pressure_on n o)).values
 unfolding pressure_on pressure_numbers spot_numbers ended_numbers values_of
-on_held_p n (P.End a) h = h
-on_held_p zero (P.Next p) h = none
-on_held_p (suc n) (P.Next p) h = h
+on_held_p n (Break a) h = h
+on_held_p zero (Continue p) h = none
+on_held_p (suc n) (Continue p) h = h
 
-start_temperature_held : (temperature : Start) → StartFits temperature → Fit (start_temperature temperature)
+start_temperature_held : (temperature : Option Float) → StartFits temperature → Fit (start_temperature temperature)
 unfolding start_temperature
 start_temperature_held None h = of_bits-fits binary64 0x4072_c000_0000_0000
-start_temperature_held (Given t) h = h
+start_temperature_held (Some t) h = h
 
-pub pressure_begin_lem : (maxdensity z0 z1 p : Float) (temperature density : Start) → StartFits temperature → FloatsStorable (start_of (CriticalPointBinaryP maxdensity z0 z1 p temperature density))
+pub pressure_begin_lem : (maxdensity z0 z1 p : Float) (temperature density : Option Float) → StartFits temperature → FloatsStorable (start_of (CriticalPointBinaryP maxdensity z0 z1 p temperature density))
 unfolding start_of begin_of pressure_begin pressure_numbers spot_numbers start_unknowns start_densities
 pressure_begin_lem maxdensity z0 z1 p temperature density h = record { values = three (start_temperature_held temperature h) (mul-fits binary64 z0 _) (mul-fits binary64 z1 _); latest = zero_fits }
 
-pub pressure_steps : (maxdensity z0 z1 p : Float) (temperature density : Start) (ev : Evaluator) (s : State)
+pub pressure_steps : (maxdensity z0 z1 p : Float) (temperature density : Option Float) (ev : Evaluator) (s : State)
     → FloatsStorable s → FloatsStorable (step_of (CriticalPointBinaryP maxdensity z0 z1 p temperature density) ev s)
 unfolding step_of pressure_step pressure_place_by pressure_next pressure_at
 pressure_steps maxdensity z0 z1 p temperature density ev s k =
-    cond_keeps (λ (x : PressurePlace). FloatsStorable (pressure_step maxdensity p ev x s)) (eqb s.numbers.counters.tag 0) _ _ k
+    cond_keeps (λ (x : Progress PressureSpot). FloatsStorable (pressure_step maxdensity p ev x s)) (eqb s.numbers.counters.tag 0) _ _ k
     (record { values = on_held_p _ _ (round_held_p maxdensity _ _); latest = add-fits binary64 _ _ })

@@ -12,16 +12,16 @@ use Rattle.solver.specs.declared.types.Values.{Values}
 use Rattle.solver.specs.declared.types.Numbers.{Numbers}
 use Rattle.solver.specs.declared.types.Refusal.{Refusal}
 use Rattle.solver.specs.declared.types.Refusal.TheVariants.{StartNotPositive, NotConverged, IterationFailed, BothPhasesFailed, WrongBranch, NotFinite}
-use Rattle.solver.specs.declared.types.Answer.{Answer}
-use Rattle.solver.specs.declared.types.Answer.TheVariants as Answer
+use Rattle.solver.specs.Answer.{Answer}
+use Rattle.std.specs.Prelude.{Ok, Err}
 use Rattle.solver.specs.Answer.{values_of}
 use Rattle.solver.specs.Stored.{answer_by, ended_numbers, refusal_by}
 use Rattle.solver.specs.Search.{Evaluator, curvature}
 use Rattle.solver_density.specs.declared.types.Branch.{Branch}
 use Rattle.solver_density.specs.declared.types.Branch.TheVariants.{Liquid, Vapor}
 use Rattle.solver_density.specs.declared.types.Conditions.{Conditions}
-use Rattle.solver_density.specs.declared.types.Outcome.{Outcome}
-use Rattle.solver_density.specs.declared.types.Outcome.TheVariants.{End, Next}
+use Rattle.solver.specs.Answer.{Progress}
+use Rattle.std.specs.declared.ops.ControlFlow.TheVariants.{Break, Continue}
 use Rattle.solver_density.specs.declared.types.SlopeOutcome.{SlopeOutcome}
 use Rattle.solver_density.specs.declared.types.SlopeOutcome.TheVariants as Slope
 use Rattle.solver_density.specs.declared.types.Nearest.{Nearest}
@@ -36,18 +36,11 @@ use Rattle.solver_density.specs.Rounds.{finite3, tested_outcome, spinodal_round,
 use Rattle.solver_density.specs.Spinodal as Spinodal
 use Rattle.solver_density.specs.Spinodal.{spinodal_outcome, branch_start, on_branch, branch_answer}
 use Rattle.solver_step.specs.declared.types.SpinodalSpot.{SpinodalSpot}
-use Rattle.solver_step.specs.declared.types.SpinodalPlace.{SpinodalPlace}
-use Rattle.solver_step.specs.declared.types.SpinodalPlace.TheVariants as SpinodalPlace
-use Rattle.solver_step.specs.declared.types.Phase.{Phase}
-use Rattle.solver_step.specs.declared.types.Phase.TheVariants.{Found, Failed}
+use Rattle.solver_step.specs.Phase.{Phase, Standing}
 use Rattle.solver_step.specs.declared.types.DensitySpot.{DensitySpot}
 use Rattle.solver_step.specs.declared.types.DensitySpot.TheVariants.{First, Slope, Curvature, NearestSpinodal, LiquidSpinodal, VaporSpinodal}
-use Rattle.solver_step.specs.declared.types.DensityPlace.{DensityPlace}
-use Rattle.solver_step.specs.declared.types.DensityPlace.TheVariants as DensityPlace
 use Rattle.solver_step.specs.declared.types.StableSpot.{StableSpot}
 use Rattle.solver_step.specs.declared.types.StableSpot.TheVariants.{LiquidSearch, VaporSearch, LiquidPotential, VaporPotential}
-use Rattle.solver_step.specs.declared.types.StablePlace.{StablePlace}
-use Rattle.solver_step.specs.declared.types.StablePlace.TheVariants as StablePlace
 use Rattle.solver_step.specs.SpinodalStep.{spinodal_on, spinodal_start, spinodal_next, branch_place, branch_begin, branch_next}
 use Rattle.solver_step.specs.DensityStep.{phase_answer, slope_at, arrived_at, slope_on, density_at, first_on, nearest_on, vapor_on, liquid_on, detour_at, curvature_on, density_next, density_begin}
 use Rattle.solver_step.specs.StableStep.{phases_on, vapor_search_on, liquid_potential_on, vapor_potential_on, of_liquid, of_vapor, stable_at, liquid_search_on, stable_next, stable_begin}
@@ -80,7 +73,7 @@ AnswerFits a = ValuesStorable (values_of a)
 abbrev PhaseFits : Phase → Type 0
 PhaseFits p = AnswerFits (phase_answer p)
 
-refused_fits : (r : Refusal) → AnswerFits (Answer.Refused r)
+refused_fits : (r : Refusal) → AnswerFits (Err r)
 unfolding values_of
 refused_fits r = record { first = zero_fits; second = zero_fits; third = zero_fits }
 
@@ -88,60 +81,60 @@ density_fits : (ρ : Float) → Fit ρ → AnswerFits (Density.density ρ)
 unfolding values_of
 density_fits ρ h = record { first = h; second = zero_fits; third = zero_fits }
 
-found_fits_lem : (ρ : Float) → Fit ρ → PhaseFits (Found ρ)
+found_fits_lem : (ρ : Float) → Fit ρ → PhaseFits (Ok ρ)
 unfolding phase_answer
 found_fits_lem ρ h = density_fits ρ h
 
-failed_fits : (r : Refusal) → PhaseFits (Failed r)
+failed_fits : (r : Refusal) → PhaseFits (Err r)
 unfolding phase_answer
 failed_fits r = refused_fits r
 
 answer_by_fits : (status : ℕ) (v : Values) → ValuesStorable v → AnswerFits (answer_by status v)
 unfolding answer_by values_of
-answer_by_fits status v h = cond_keeps AnswerFits (eqb status 0) (Answer.Found v) (Answer.Refused (refusal_by status)) h (refused_fits (refusal_by status))
+answer_by_fits status v h = cond_keeps AnswerFits (eqb status 0) (Ok v) (Err (refusal_by status)) h (refused_fits (refusal_by status))
 
 phase_by_fits : (status : ℕ) (ρ : Float) → Fit ρ → PhaseFits (phase_by status ρ)
 unfolding phase_by
-phase_by_fits status ρ h = cond_keeps PhaseFits (eqb status 0) (Found ρ) (Failed (refusal_by status)) (found_fits_lem ρ h) (failed_fits (refusal_by status))
+phase_by_fits status ρ h = cond_keeps PhaseFits (eqb status 0) (Ok ρ) (Err (refusal_by status)) (found_fits_lem ρ h) (failed_fits (refusal_by status))
 
 -- ---- kinds 3 and 4: where a spinodal search stands
 
-abbrev SpinodalFits : SpinodalPlace → Type 0
+abbrev SpinodalFits : Progress SpinodalSpot → Type 0
 SpinodalFits p = ValuesStorable (spinodal_numbers p).values
 
-spinodal_ended : (a : Answer) → AnswerFits a → SpinodalFits (SpinodalPlace.Ended a)
+spinodal_ended : (a : Answer) → AnswerFits a → SpinodalFits (Break a)
 unfolding spinodal_numbers ended_numbers
 spinodal_ended a h = h
 
-spinodal_at : (s : SpinodalSpot) → Fit s.rho → SpinodalFits (SpinodalPlace.At s)
+spinodal_at : (s : SpinodalSpot) → Fit s.rho → SpinodalFits (Continue s)
 unfolding spinodal_numbers spot_numbers
 spinodal_at s h = record { first = h; second = zero_fits; third = zero_fits }
 
-abbrev OutcomeFits : Outcome → Type 0
-OutcomeFits (End a) = AnswerFits a
-OutcomeFits (Next ρ) = Fit ρ
+abbrev OutcomeFits : Progress Float → Type 0
+OutcomeFits (Break a) = AnswerFits a
+OutcomeFits (Continue ρ) = Fit ρ
 
-tested_fits : (o : Outcome) → OutcomeFits o → OutcomeFits (tested_outcome o)
+tested_fits : (o : Progress Float) → OutcomeFits o → OutcomeFits (tested_outcome o)
 unfolding tested_outcome
-tested_fits (End a) h = h
-tested_fits (Next ρ) h = cond_keeps OutcomeFits (finite_of ρ) (Next ρ) (End (Answer.Refused NotFinite)) h (refused_fits NotFinite)
+tested_fits (Break a) h = h
+tested_fits (Continue ρ) h = cond_keeps OutcomeFits (finite_of ρ) (Continue ρ) (Break (Err NotFinite)) h (refused_fits NotFinite)
 
 module _ (maxdensity ρ : Float) (y : Pressure) (hρ : Fit ρ) (hp : Fit y.p) (hs : Fit y.d2p_drho2) where
   outcome_fits : OutcomeFits (spinodal_outcome maxdensity ρ y)
   unfolding spinodal_outcome Spinodal.spinodal_step values_of
   outcome_fits =
       cond_keeps OutcomeFits (lt (abs_of y.dp_drho) d1e_8) _ _ (record { first = hp; second = hρ; third = hs })
-      (cond_keeps OutcomeFits (finite_of _) (Next _) (End (Answer.Refused NotConverged)) (add-fits binary64 _ _) (refused_fits NotConverged))
+      (cond_keeps OutcomeFits (finite_of _) (Continue _) (Break (Err NotConverged)) (add-fits binary64 _ _) (refused_fits NotConverged))
 
   round-fits : OutcomeFits (spinodal_round maxdensity ρ y)
   unfolding spinodal_round
-  round-fits = cond_keeps OutcomeFits (finite3 y) _ (End (Answer.Refused NotFinite)) (tested_fits _ outcome_fits) (refused_fits NotFinite)
+  round-fits = cond_keeps OutcomeFits (finite3 y) _ (Break (Err NotFinite)) (tested_fits _ outcome_fits) (refused_fits NotFinite)
 
-on_fits : (n : ℕ) (o : Outcome) → OutcomeFits o → SpinodalFits (spinodal_on n o)
+on_fits : (n : ℕ) (o : Progress Float) → OutcomeFits o → SpinodalFits (spinodal_on n o)
 unfolding spinodal_on
-on_fits n (End a) h = spinodal_ended a h
-on_fits zero (Next ρ) h = spinodal_ended _ (refused_fits NotConverged)
-on_fits (suc n) (Next ρ) h = spinodal_at _ h
+on_fits n (Break a) h = spinodal_ended a h
+on_fits zero (Continue ρ) h = spinodal_ended _ (refused_fits NotConverged)
+on_fits (suc n) (Continue ρ) h = spinodal_at _ h
 
 start_fits : (ρ : Float) → Fit ρ → SpinodalFits (spinodal_start ρ)
 unfolding spinodal_start
@@ -150,13 +143,13 @@ start_fits ρ h = cond_keeps SpinodalFits (le ρ f0) _ _ (spinodal_ended _ (refu
 branch_answer_fits : (branch : Branch) (v : Values) → ValuesStorable v → AnswerFits (branch_answer branch v)
 unfolding branch_answer values_of
 branch_answer_fits branch v h =
-    cond_keeps AnswerFits (on_branch branch v.third) _ (Answer.Refused WrongBranch) (record { first = h.first; second = h.second; third = zero_fits }) (refused_fits WrongBranch)
+    cond_keeps AnswerFits (on_branch branch v.third) _ (Err WrongBranch) (record { first = h.first; second = h.second; third = zero_fits }) (refused_fits WrongBranch)
 
-branch_fits : (branch : Branch) (p : SpinodalPlace) → SpinodalFits p → SpinodalFits (branch_place branch p)
+branch_fits : (branch : Branch) (p : Progress SpinodalSpot) → SpinodalFits p → SpinodalFits (branch_place branch p)
 unfolding branch_place spinodal_numbers ended_numbers values_of
-branch_fits branch (SpinodalPlace.Ended (Answer.Found v)) h = branch_answer_fits branch v h
-branch_fits branch (SpinodalPlace.Ended (Answer.Refused r)) h = h
-branch_fits branch (SpinodalPlace.At s) h = h
+branch_fits branch (Break (Ok v)) h = branch_answer_fits branch v h
+branch_fits branch (Break (Err r)) h = h
+branch_fits branch (Continue s) h = h
 
 branch_start_fits : (maxdensity : Float) (branch : Branch) → Fit (branch_start maxdensity branch)
 unfolding branch_start
@@ -182,19 +175,19 @@ module _ (maxdensity t : Float) (ev : Evaluator) (yields : YieldsFit ev) (s : Sp
 abbrev SpotFits : DensitySpot → Type 0
 SpotFits s = ValuesStorable (density_spot_numbers s).values
 
-abbrev DensityFits : DensityPlace → Type 0
+abbrev DensityFits : Standing DensitySpot → Type 0
 DensityFits p = ValuesStorable (density_numbers p).values
 
-density_ended : (p : Phase) → PhaseFits p → DensityFits (DensityPlace.Ended p)
+density_ended : (p : Phase) → PhaseFits p → DensityFits (Break p)
 unfolding density_numbers ended_numbers
 density_ended p h = h
 
-density_at_lem : (s : DensitySpot) → SpotFits s → DensityFits (DensityPlace.At s)
+density_at_lem : (s : DensitySpot) → SpotFits s → DensityFits (Continue s)
 unfolding density_numbers
 density_at_lem s h = h
 
-failed : (r : Refusal) → DensityFits (DensityPlace.Ended (Failed r))
-failed r = density_ended (Failed r) (failed_fits r)
+failed : (r : Refusal) → DensityFits (Break (Err r))
+failed r = density_ended (Err r) (failed_fits r)
 
 -- a spot with one density or two floats
 asks : (tag left way rounds : ℕ) (x y : Float) → Fit x → Fit y → ValuesStorable (spot_numbers tag left way rounds x y).values
@@ -214,13 +207,13 @@ slope_at_fits (suc n) ρ h = asks 2 n 0 0 ρ f0 h zero_fits
 
 arrived_fits : (n : ℕ) (a : Answer) → AnswerFits a → DensityFits (arrived_at n a)
 unfolding arrived_at values_of
-arrived_fits n (Answer.Found v) h = slope_at_fits n v.first h.first
-arrived_fits n (Answer.Refused r) h = failed r
+arrived_fits n (Ok v) h = slope_at_fits n v.first h.first
+arrived_fits n (Err r) h = failed r
 
 slope_on_fits : (n : ℕ) (ρ : Float) (o : SlopeOutcome) → Fit ρ → SlopeFits o → DensityFits (slope_on n ρ o)
 unfolding slope_on density_numbers density_spot_numbers
 slope_on_fits n ρ Slope.NotFinite h k = failed NotFinite
-slope_on_fits n ρ (Slope.Converged ρ') h k = density_ended (Found ρ') (found_fits_lem ρ' k)
+slope_on_fits n ρ (Slope.Converged ρ') h k = density_ended (Ok ρ') (found_fits_lem ρ' k)
 slope_on_fits n ρ (Slope.Next ρ') h k = slope_at_fits n ρ' k
 slope_on_fits n ρ (Slope.Unstable error) h k = asks 3 n 0 0 ρ error h k
 
@@ -253,7 +246,7 @@ module _ (c : Conditions) (fit : ConditionsFit c) where
   unfolding after_nearest
   after_nearest_fits HighDensity sp =
       cond_keeps AnswerFits (lt (d0·85 ⊗ c.maxdensity) sp.second) _ _
-      (cond_keeps AnswerFits (negative_of (sp.first ⊖ c.pressure)) (Answer.Refused IterationFailed) _ (refused_fits IterationFailed) (density_fits _ (mul-fits binary64 _ _)))
+      (cond_keeps AnswerFits (negative_of (sp.first ⊖ c.pressure)) (Err IterationFailed) _ (refused_fits IterationFailed) (density_fits _ (mul-fits binary64 _ _)))
       (density_fits _ (beside_fits sp))
   after_nearest_fits AboveConvex sp = density_fits _ (beside_fits sp)
   after_nearest_fits BelowConcave sp =
@@ -273,27 +266,27 @@ module _ (c : Conditions) (fit : ConditionsFit c) where
   first_on_fits : (o : SlopeOutcome) → SlopeFits o → DensityFits (first_on c o)
   unfolding first_on density_numbers density_spot_numbers
   first_on_fits Slope.NotFinite h = failed NotFinite
-  first_on_fits (Slope.Converged ρ) h = density_ended (Found ρ) (found_fits_lem ρ h)
+  first_on_fits (Slope.Converged ρ) h = density_ended (Ok ρ) (found_fits_lem ρ h)
   first_on_fits (Slope.Next ρ) h = slope_at_fits 49 ρ h
   first_on_fits (Slope.Unstable error) h = asks 2 49 0 0 (corrected c) f0 corrected_fits zero_fits
 
-  nearest_on_fits : (n : ℕ) (way : Nearest) (p : SpinodalPlace) → SpinodalFits p → DensityFits (nearest_on c n way p)
+  nearest_on_fits : (n : ℕ) (way : Nearest) (p : Progress SpinodalSpot) → SpinodalFits p → DensityFits (nearest_on c n way p)
   unfolding nearest_on density_numbers density_spot_numbers spinodal_numbers spot_numbers
-  nearest_on_fits n way (SpinodalPlace.Ended (Answer.Found sp)) h = arrived_fits n (after_nearest c way sp) (after_nearest_fits way sp)
-  nearest_on_fits n way (SpinodalPlace.Ended (Answer.Refused r)) h = failed r
-  nearest_on_fits n way (SpinodalPlace.At s) h = h
+  nearest_on_fits n way (Break (Ok sp)) h = arrived_fits n (after_nearest c way sp) (after_nearest_fits way sp)
+  nearest_on_fits n way (Break (Err r)) h = failed r
+  nearest_on_fits n way (Continue s) h = h
 
-  vapor_on_fits : (n : ℕ) (way : Both) (ρl : Float) (p : SpinodalPlace) → Fit ρl → SpinodalFits p → DensityFits (vapor_on c n way ρl p)
+  vapor_on_fits : (n : ℕ) (way : Both) (ρl : Float) (p : Progress SpinodalSpot) → Fit ρl → SpinodalFits p → DensityFits (vapor_on c n way ρl p)
   unfolding vapor_on density_numbers density_spot_numbers spinodal_numbers spot_numbers
-  vapor_on_fits n way ρl (SpinodalPlace.Ended (Answer.Found v)) l h = slope_at_fits n (after_both c way ρl v) (after_both_fits way ρl v)
-  vapor_on_fits n way ρl (SpinodalPlace.Ended (Answer.Refused r)) l h = failed r
-  vapor_on_fits n way ρl (SpinodalPlace.At s) l h = record { first = h.first; second = l; third = zero_fits }
+  vapor_on_fits n way ρl (Break (Ok v)) l h = slope_at_fits n (after_both c way ρl v) (after_both_fits way ρl v)
+  vapor_on_fits n way ρl (Break (Err r)) l h = failed r
+  vapor_on_fits n way ρl (Continue s) l h = record { first = h.first; second = l; third = zero_fits }
 
-  liquid_on_fits : (n : ℕ) (way : Both) (p : SpinodalPlace) → SpinodalFits p → DensityFits (liquid_on c n way p)
+  liquid_on_fits : (n : ℕ) (way : Both) (p : Progress SpinodalSpot) → SpinodalFits p → DensityFits (liquid_on c n way p)
   unfolding liquid_on density_numbers density_spot_numbers spinodal_numbers spot_numbers ended_numbers values_of
-  liquid_on_fits n way (SpinodalPlace.Ended (Answer.Found l)) h = vapor_on_fits n way l.second _ h.second (branch_begin_fits c.maxdensity Vapor)
-  liquid_on_fits n way (SpinodalPlace.Ended (Answer.Refused r)) h = failed r
-  liquid_on_fits n way (SpinodalPlace.At s) h = h
+  liquid_on_fits n way (Break (Ok l)) h = vapor_on_fits n way l.second _ h.second (branch_begin_fits c.maxdensity Vapor)
+  liquid_on_fits n way (Break (Err r)) h = failed r
+  liquid_on_fits n way (Continue s) h = h
 
   detour_fits : (n : ℕ) (way : Detour) → DensityFits (detour_at c n way)
   unfolding detour_at
@@ -330,10 +323,10 @@ density_begin_fits c = cond_keeps DensityFits (le c.start f0) _ _ (failed StartN
 
 -- ---- kind 2: where the search of the stable phase stands
 
-abbrev StableFits : StablePlace → Type 0
+abbrev StableFits : Standing StableSpot → Type 0
 StableFits p = ValuesStorable (stable_numbers p).values
 
-stable_ended : (p : Phase) → PhaseFits p → StableFits (StablePlace.Ended p)
+stable_ended : (p : Phase) → PhaseFits p → StableFits (Break p)
 unfolding stable_numbers ended_numbers
 stable_ended p h = h
 
@@ -354,8 +347,8 @@ unstaged_fits stage status z (VaporSpinodal n way ρl s) h = record { first = h.
 -- the density that a phase ended with is stored by itself
 phase_float : (p : Phase) → Fit (values_of (phase_answer p)).first → PhaseFits p
 unfolding phase_answer values_of
-phase_float (Found ρ) h = found_fits_lem ρ h
-phase_float (Failed r) h = failed_fits r
+phase_float (Ok ρ) h = found_fits_lem ρ h
+phase_float (Err r) h = failed_fits r
 
 potentials_fit : (stage : ℕ) (x y z : Float) → Fit x → Fit y → Fit z → ValuesStorable (potential_numbers stage x y z).values
 unfolding potential_numbers
@@ -363,24 +356,24 @@ potentials_fit stage x y z h k l = record { first = h; second = k; third = l }
 
 phases_fit : (liquid vapor : Phase) → PhaseFits liquid → PhaseFits vapor → StableFits (phases_on liquid vapor)
 unfolding phases_on stable_numbers phase_answer values_of
-phases_fit (Found l) (Found v) h k = potentials_fit 3 l v f0 h.first k.first zero_fits
-phases_fit (Found l) (Failed r) h k = stable_ended (Found l) h
-phases_fit (Failed q) (Found v) h k = stable_ended (Found v) k
-phases_fit (Failed q) (Failed r) h k = stable_ended (Failed BothPhasesFailed) (failed_fits BothPhasesFailed)
+phases_fit (Ok l) (Ok v) h k = potentials_fit 3 l v f0 h.first k.first zero_fits
+phases_fit (Ok l) (Err r) h k = stable_ended (Ok l) h
+phases_fit (Err q) (Ok v) h k = stable_ended (Ok v) k
+phases_fit (Err q) (Err r) h k = stable_ended (Err BothPhasesFailed) (failed_fits BothPhasesFailed)
 
-vapor_search_fits : (liquid : Phase) (p : DensityPlace) → PhaseFits liquid → DensityFits p → StableFits (vapor_search_on liquid p)
+vapor_search_fits : (liquid : Phase) (p : Standing DensitySpot) → PhaseFits liquid → DensityFits p → StableFits (vapor_search_on liquid p)
 unfolding vapor_search_on stable_numbers density_numbers ended_numbers
-vapor_search_fits liquid (DensityPlace.Ended vapor) h k = phases_fit liquid vapor h k
-vapor_search_fits liquid (DensityPlace.At s) h k = staged_fits 2 _ _ (density_spot_numbers s) h.first k
+vapor_search_fits liquid (Break vapor) h k = phases_fit liquid vapor h k
+vapor_search_fits liquid (Continue s) h k = staged_fits 2 _ _ (density_spot_numbers s) h.first k
 
 liquid_potential_fits : (l v μl : Float) → Fit l → Fit v → Fit μl → StableFits (liquid_potential_on l v μl)
 unfolding liquid_potential_on stable_numbers
-liquid_potential_fits l v μl h k m = cond_keeps StableFits (finite_of μl) _ _ (potentials_fit 4 l v μl h k m) (stable_ended (Failed NotFinite) (failed_fits NotFinite))
+liquid_potential_fits l v μl h k m = cond_keeps StableFits (finite_of μl) _ _ (potentials_fit 4 l v μl h k m) (stable_ended (Err NotFinite) (failed_fits NotFinite))
 
 vapor_potential_fits : (l v μl μv : Float) → Fit l → Fit v → StableFits (vapor_potential_on l v μl μv)
 unfolding vapor_potential_on
 vapor_potential_fits l v μl μv h k =
-    cond_keeps StableFits (finite_of μv) _ _ (stable_ended _ (found_fits_lem _ (cond-fits binary64 (lt μv μl) v l k h))) (stable_ended (Failed NotFinite) (failed_fits NotFinite))
+    cond_keeps StableFits (finite_of μv) _ _ (stable_ended _ (found_fits_lem _ (cond-fits binary64 (lt μv μl) v l k h))) (stable_ended (Err NotFinite) (failed_fits NotFinite))
 
 -- the conditions that a request makes, from a start that fits
 pub conditions_fit_lem : (maxdensity t p : Float) (initial : DensityInitialization) → T (fits binary64 maxdensity) → T (fits binary64 t) → T (fits binary64 p)
@@ -395,13 +388,13 @@ module _ (maxdensity t p : Float) (m : Fit maxdensity) (ht : Fit t) (hp : Fit p)
   of_vapor_lem : ConditionsFit (of_vapor maxdensity t p)
   of_vapor_lem = conditions_fit_lem maxdensity t p Initial.Vapor m ht hp (unfold Density.start_of in div-fits binary64 p t)
 
-  liquid_search_fits : (x : DensityPlace) → DensityFits x → StableFits (liquid_search_on maxdensity t p x)
+  liquid_search_fits : (x : Standing DensitySpot) → DensityFits x → StableFits (liquid_search_on maxdensity t p x)
   unfolding liquid_search_on stable_numbers density_numbers ended_numbers
-  liquid_search_fits (DensityPlace.Ended liquid) h =
+  liquid_search_fits (Break liquid) h =
       cond_keeps StableFits (lt p (maxdensity ⊗ t)) _ _ (vapor_search_fits liquid _ h (density_begin_fits (of_vapor maxdensity t p))) h
-  liquid_search_fits (DensityPlace.At s) h = staged_fits 1 0 f0 (density_spot_numbers s) zero_fits h
+  liquid_search_fits (Continue s) h = staged_fits 1 0 f0 (density_spot_numbers s) zero_fits h
 
-  stable_next_fits : (ev : Evaluator) → YieldsFit ev → (s : StableSpot) → StableFits (StablePlace.At s) → StableFits (stable_next maxdensity t p ev s)
+  stable_next_fits : (ev : Evaluator) → YieldsFit ev → (s : StableSpot) → StableFits (Continue s) → StableFits (stable_next maxdensity t p ev s)
   unfolding stable_next stable_numbers potential_numbers
   stable_next_fits ev yields (LiquidSearch s) h = liquid_search_fits _ (density_next_fits (of_liquid maxdensity t p) of_liquid_lem ev yields s (unstaged_fits 1 0 f0 s h))
   stable_next_fits ev yields (VaporSearch liquid s) h =
@@ -410,7 +403,7 @@ module _ (maxdensity t p : Float) (m : Fit maxdensity) (ht : Fit t) (hp : Fit p)
   stable_next_fits ev yields (LiquidPotential l v) h = liquid_potential_fits l v _ h.first h.second (yields.potential_fits t l)
   stable_next_fits ev yields (VaporPotential l v μl) h = vapor_potential_fits l v μl _ h.first h.second
 
-  stable_at_fits : (s : StableSpot) → StableFits (StablePlace.At s) → Fit (stable_at maxdensity t p s)
+  stable_at_fits : (s : StableSpot) → StableFits (Continue s) → Fit (stable_at maxdensity t p s)
   unfolding stable_at stable_numbers potential_numbers
   stable_at_fits (LiquidSearch s) h = density_at_fits (of_liquid maxdensity t p) of_liquid_lem s (unstaged_fits 1 0 f0 s h)
   stable_at_fits (VaporSearch liquid s) h = density_at_fits (of_vapor maxdensity t p) of_vapor_lem s (unstaged_fits 2 _ _ s h)
@@ -437,7 +430,7 @@ module _ (n : Numbers) (h : ValuesStorable n.values) where
   density_read = cond_keeps DensityFits (eqb n.counters.tag 0) _ _ (density_ended _ (phase_by_fits _ _ h.first)) (density_at_lem _ spot_read)
 
   abbrev AskingFits : StableSpot → Type 0
-  AskingFits s = StableFits (StablePlace.At s)
+  AskingFits s = StableFits (Continue s)
 
   stable_read : StableFits (stable_place_by n)
   unfolding stable_place_by stable_spot_by stable_numbers
@@ -450,26 +443,26 @@ module _ (n : Numbers) (h : ValuesStorable n.values) where
 -- ---- a step, from where the numbers stand
 
 module _ (ev : Evaluator) (yields : YieldsFit ev) (s : State) (h : FloatsStorable s) where
-  density_step_fits : (c : Conditions) → ConditionsFit c → (x : DensityPlace) → DensityFits x → FloatsStorable (density_step c ev x s)
+  density_step_fits : (c : Conditions) → ConditionsFit c → (x : Standing DensitySpot) → DensityFits x → FloatsStorable (density_step c ev x s)
   unfolding density_step density_numbers
-  density_step_fits c fit (DensityPlace.Ended a) k = h
-  density_step_fits c fit (DensityPlace.At x) k = record { values = density_next_fits c fit ev yields x k; latest = density_at_fits c fit x k }
+  density_step_fits c fit (Break a) k = h
+  density_step_fits c fit (Continue x) k = record { values = density_next_fits c fit ev yields x k; latest = density_at_fits c fit x k }
 
-  stable_step_fits : (maxdensity t p : Float) → Fit maxdensity → Fit t → Fit p → (x : StablePlace) → StableFits x → FloatsStorable (stable_step maxdensity t p ev x s)
+  stable_step_fits : (maxdensity t p : Float) → Fit maxdensity → Fit t → Fit p → (x : Standing StableSpot) → StableFits x → FloatsStorable (stable_step maxdensity t p ev x s)
   unfolding stable_step
-  stable_step_fits maxdensity t p m ht hp (StablePlace.Ended a) k = h
-  stable_step_fits maxdensity t p m ht hp (StablePlace.At x) k =
+  stable_step_fits maxdensity t p m ht hp (Break a) k = h
+  stable_step_fits maxdensity t p m ht hp (Continue x) k =
       record { values = stable_next_fits maxdensity t p m ht hp ev yields x k; latest = stable_at_fits maxdensity t p m ht hp x k }
 
-  spinodal_step_fits : (maxdensity t : Float) (x : SpinodalPlace) → SpinodalFits x → FloatsStorable (spinodal_step maxdensity t ev x s)
+  spinodal_step_fits : (maxdensity t : Float) (x : Progress SpinodalSpot) → SpinodalFits x → FloatsStorable (spinodal_step maxdensity t ev x s)
   unfolding spinodal_step spinodal_numbers spot_numbers
-  spinodal_step_fits maxdensity t (SpinodalPlace.Ended a) k = h
-  spinodal_step_fits maxdensity t (SpinodalPlace.At x) k = record { values = spinodal_next_fits maxdensity t ev yields x k.first; latest = k.first }
+  spinodal_step_fits maxdensity t (Break a) k = h
+  spinodal_step_fits maxdensity t (Continue x) k = record { values = spinodal_next_fits maxdensity t ev yields x k.first; latest = k.first }
 
-  branch_step_fits : (maxdensity t : Float) (branch : Branch) (x : SpinodalPlace) → SpinodalFits x → FloatsStorable (branch_step maxdensity t branch ev x s)
+  branch_step_fits : (maxdensity t : Float) (branch : Branch) (x : Progress SpinodalSpot) → SpinodalFits x → FloatsStorable (branch_step maxdensity t branch ev x s)
   unfolding branch_step spinodal_numbers spot_numbers
-  branch_step_fits maxdensity t branch (SpinodalPlace.Ended a) k = h
-  branch_step_fits maxdensity t branch (SpinodalPlace.At x) k = record { values = branch_next_fits maxdensity t ev yields x k.first branch; latest = k.first }
+  branch_step_fits maxdensity t branch (Break a) k = h
+  branch_step_fits maxdensity t branch (Continue x) k = record { values = branch_next_fits maxdensity t ev yields x k.first branch; latest = k.first }
 
 -- ---- every kind: a search begins with floats that fit, and a step keeps them
 

@@ -3,7 +3,7 @@ use Rattle.std.proofs.Common.{◌≡◌, ℕ, sym, ap, ◌∙◌, arith}
 use lib.Ieee.{Float}
 use Rattle.float.specs.Ops.{f0}
 use Rattle.float.specs.Sign.{finite_of}
-use Rattle.solver.specs.declared.types.Answer.{Answer}
+use Rattle.solver.specs.Answer.{Answer}
 use Rattle.solver.specs.declared.types.Numbers.{Numbers}
 use Rattle.solver.specs.Search.{Evaluator, Search, done, Going, next_of}
 use Rattle.solver.specs.Stored.{ended_numbers}
@@ -11,12 +11,12 @@ use Rattle.solver.proofs.Steps.{moved}
 use Rattle.solver_density.specs.declared.types.Branch.{Branch}
 use Rattle.solver_density.specs.declared.types.Conditions.{Conditions}
 use Rattle.solver_critical.specs.CriticalPoint.{start_density}
-use Rattle.solver_step.specs.declared.types.SpinodalPlace.{SpinodalPlace}
-use Rattle.solver_step.specs.declared.types.SpinodalPlace.TheVariants as Spinodal
-use Rattle.solver_step.specs.declared.types.DensityPlace.{DensityPlace}
-use Rattle.solver_step.specs.declared.types.DensityPlace.TheVariants as DensityPlace
-use Rattle.solver_step.specs.declared.types.StablePlace.{StablePlace}
-use Rattle.solver_step.specs.declared.types.StablePlace.TheVariants as Stable
+use Rattle.solver.specs.Answer.{Progress}
+use Rattle.solver_step.specs.declared.types.SpinodalSpot.{SpinodalSpot}
+use Rattle.std.specs.declared.ops.ControlFlow.TheVariants.{Break, Continue}
+use Rattle.solver_step.specs.Phase.{Phase, Standing}
+use Rattle.solver_step.specs.declared.types.DensitySpot.{DensitySpot}
+use Rattle.solver_step.specs.declared.types.StableSpot.{StableSpot}
 use Rattle.solver_step.specs.SpinodalStep.{spinodal_start, spinodal_left, spinodal_next, branch_begin, branch_left, branch_next}
 use Rattle.solver_step.specs.DensityStep.{density_left, density_next, density_begin}
 use Rattle.solver_step.specs.StableStep.{stable_left, stable_next, stable_begin}
@@ -25,20 +25,16 @@ use Rattle.solver_step.proofs.SpinodalLaw.{spinodal_law, branch_law}
 use Rattle.solver_step.proofs.DensityLaw.{density_law}
 use Rattle.solver_step.proofs.StableLaw.{stable_law}
 use Rattle.solver_step.proofs.StoredBack.{spinodal_back, density_back, stable_back}
-use Rattle.solver_critical_step.specs.declared.types.CriticalPlace.{CriticalPlace}
-use Rattle.solver_critical_step.specs.declared.types.CriticalPlace.TheVariants as Critical
-use Rattle.solver_critical_step.specs.declared.types.SpinodalsPlace.{SpinodalsPlace}
-use Rattle.solver_critical_step.specs.declared.types.SpinodalsPlace.TheVariants as Spinodals
+use Rattle.solver_critical_step.specs.declared.types.CriticalSpot.{CriticalSpot}
+use Rattle.solver_critical_step.specs.declared.types.SpinodalsSpot.{SpinodalsSpot}
 use Rattle.solver_critical_step.specs.CriticalStep.{critical_left, critical_next, critical_begin}
 use Rattle.solver_critical_step.specs.SpinodalsStep.{spinodals_left, spinodals_next, spinodals_begin}
 use Rattle.solver_critical_step.specs.Stored.{critical_numbers, critical_place_by, spinodals_numbers, spinodals_place_by}
 use Rattle.solver_critical_step.proofs.CriticalLaw.{critical_law}
 use Rattle.solver_critical_step.proofs.SpinodalsLaw.{spinodals_law}
 use Rattle.solver_critical_step.proofs.StoredBack.{critical_back, spinodals_back}
-use Rattle.solver_binary_step.specs.declared.types.TemperaturePlace.{TemperaturePlace}
-use Rattle.solver_binary_step.specs.declared.types.TemperaturePlace.TheVariants as Temperature
-use Rattle.solver_binary_step.specs.declared.types.PressurePlace.{PressurePlace}
-use Rattle.solver_binary_step.specs.declared.types.PressurePlace.TheVariants as Pressure
+use Rattle.solver_binary_step.specs.declared.types.TemperatureSpot.{TemperatureSpot}
+use Rattle.solver_binary_step.specs.declared.types.PressureSpot.{PressureSpot}
 use Rattle.solver_binary_step.specs.BinaryStep.{temperature_left, temperature_next, temperature_begin, pressure_left, pressure_next, pressure_begin}
 use Rattle.solver_binary_step.specs.Stored.{temperature_numbers, temperature_place_by, pressure_numbers, pressure_place_by}
 use Rattle.solver_binary_step.proofs.BinaryLaw.{temperature_law, pressure_law}
@@ -73,53 +69,53 @@ begin_again (CriticalPointBinaryP maxdensity z0 z1 p temperature density) = ap p
 
 -- and a step leads to the numbers of a place
 module _ (ev : Evaluator) (s : State) where
-  density_again : (c : Conditions) (p : DensityPlace) → density_numbers (density_place_by s.numbers) ≡ s.numbers
+  density_again : (c : Conditions) (p : Standing DensitySpot) → density_numbers (density_place_by s.numbers) ≡ s.numbers
       → density_numbers (density_place_by (density_step c ev p s).numbers) ≡ (density_step c ev p s).numbers
   unfolding density_step
-  density_again c (DensityPlace.Ended a) h = h
-  density_again c (DensityPlace.At x) h = ap density_numbers (density_back (density_next c ev x))
+  density_again c (Break a) h = h
+  density_again c (Continue x) h = ap density_numbers (density_back (density_next c ev x))
 
-  stable_again : (maxdensity t p : Float) (x : StablePlace) → stable_numbers (stable_place_by s.numbers) ≡ s.numbers
+  stable_again : (maxdensity t p : Float) (x : Standing StableSpot) → stable_numbers (stable_place_by s.numbers) ≡ s.numbers
       → stable_numbers (stable_place_by (stable_step maxdensity t p ev x s).numbers) ≡ (stable_step maxdensity t p ev x s).numbers
   unfolding stable_step
-  stable_again maxdensity t p (Stable.Ended a) h = h
-  stable_again maxdensity t p (Stable.At x) h = ap stable_numbers (stable_back (stable_next maxdensity t p ev x))
+  stable_again maxdensity t p (Break a) h = h
+  stable_again maxdensity t p (Continue x) h = ap stable_numbers (stable_back (stable_next maxdensity t p ev x))
 
-  spinodal_again : (maxdensity t : Float) (p : SpinodalPlace) → spinodal_numbers (spinodal_place_by s.numbers) ≡ s.numbers
+  spinodal_again : (maxdensity t : Float) (p : Progress SpinodalSpot) → spinodal_numbers (spinodal_place_by s.numbers) ≡ s.numbers
       → spinodal_numbers (spinodal_place_by (spinodal_step maxdensity t ev p s).numbers) ≡ (spinodal_step maxdensity t ev p s).numbers
   unfolding spinodal_step
-  spinodal_again maxdensity t (Spinodal.Ended a) h = h
-  spinodal_again maxdensity t (Spinodal.At x) h = ap spinodal_numbers (spinodal_back (spinodal_next maxdensity t ev x))
+  spinodal_again maxdensity t (Break a) h = h
+  spinodal_again maxdensity t (Continue x) h = ap spinodal_numbers (spinodal_back (spinodal_next maxdensity t ev x))
 
-  branch_again : (maxdensity t : Float) (branch : Branch) (p : SpinodalPlace) → spinodal_numbers (spinodal_place_by s.numbers) ≡ s.numbers
+  branch_again : (maxdensity t : Float) (branch : Branch) (p : Progress SpinodalSpot) → spinodal_numbers (spinodal_place_by s.numbers) ≡ s.numbers
       → spinodal_numbers (spinodal_place_by (branch_step maxdensity t branch ev p s).numbers) ≡ (branch_step maxdensity t branch ev p s).numbers
   unfolding branch_step
-  branch_again maxdensity t branch (Spinodal.Ended a) h = h
-  branch_again maxdensity t branch (Spinodal.At x) h = ap spinodal_numbers (spinodal_back (branch_next maxdensity t branch ev x))
+  branch_again maxdensity t branch (Break a) h = h
+  branch_again maxdensity t branch (Continue x) h = ap spinodal_numbers (spinodal_back (branch_next maxdensity t branch ev x))
 
-  critical_again : (maxdensity ρ : Float) (p : CriticalPlace) → critical_numbers (critical_place_by s.numbers) ≡ s.numbers
+  critical_again : (maxdensity ρ : Float) (p : Progress CriticalSpot) → critical_numbers (critical_place_by s.numbers) ≡ s.numbers
       → critical_numbers (critical_place_by (critical_step maxdensity ρ ev p s).numbers) ≡ (critical_step maxdensity ρ ev p s).numbers
   unfolding critical_step
-  critical_again maxdensity ρ (Critical.Ended a) h = h
-  critical_again maxdensity ρ (Critical.At x) h = ap critical_numbers (critical_back (critical_next maxdensity ρ ev x))
+  critical_again maxdensity ρ (Break a) h = h
+  critical_again maxdensity ρ (Continue x) h = ap critical_numbers (critical_back (critical_next maxdensity ρ ev x))
 
-  spinodals_again : (maxdensity t : Float) (p : SpinodalsPlace) → spinodals_numbers (spinodals_place_by s.numbers) ≡ s.numbers
+  spinodals_again : (maxdensity t : Float) (p : Progress SpinodalsSpot) → spinodals_numbers (spinodals_place_by s.numbers) ≡ s.numbers
       → spinodals_numbers (spinodals_place_by (spinodals_step maxdensity t ev p s).numbers) ≡ (spinodals_step maxdensity t ev p s).numbers
   unfolding spinodals_step
-  spinodals_again maxdensity t (Spinodals.Ended a) h = h
-  spinodals_again maxdensity t (Spinodals.At x) h = ap spinodals_numbers (spinodals_back (spinodals_next maxdensity t ev x))
+  spinodals_again maxdensity t (Break a) h = h
+  spinodals_again maxdensity t (Continue x) h = ap spinodals_numbers (spinodals_back (spinodals_next maxdensity t ev x))
 
-  temperature_again : (maxdensity t : Float) (p : TemperaturePlace) → temperature_numbers (temperature_place_by s.numbers) ≡ s.numbers
+  temperature_again : (maxdensity t : Float) (p : Progress TemperatureSpot) → temperature_numbers (temperature_place_by s.numbers) ≡ s.numbers
       → temperature_numbers (temperature_place_by (temperature_step maxdensity t ev p s).numbers) ≡ (temperature_step maxdensity t ev p s).numbers
   unfolding temperature_step
-  temperature_again maxdensity t (Temperature.Ended a) h = h
-  temperature_again maxdensity t (Temperature.At x) h = ap temperature_numbers (temperature_back (temperature_next maxdensity t ev x))
+  temperature_again maxdensity t (Break a) h = h
+  temperature_again maxdensity t (Continue x) h = ap temperature_numbers (temperature_back (temperature_next maxdensity t ev x))
 
-  pressure_again : (maxdensity pressure : Float) (p : PressurePlace) → pressure_numbers (pressure_place_by s.numbers) ≡ s.numbers
+  pressure_again : (maxdensity pressure : Float) (p : Progress PressureSpot) → pressure_numbers (pressure_place_by s.numbers) ≡ s.numbers
       → pressure_numbers (pressure_place_by (pressure_step maxdensity pressure ev p s).numbers) ≡ (pressure_step maxdensity pressure ev p s).numbers
   unfolding pressure_step
-  pressure_again maxdensity pressure (Pressure.Ended a) h = h
-  pressure_again maxdensity pressure (Pressure.At x) h = ap pressure_numbers (pressure_back (pressure_next maxdensity pressure ev x))
+  pressure_again maxdensity pressure (Break a) h = h
+  pressure_again maxdensity pressure (Continue x) h = ap pressure_numbers (pressure_back (pressure_next maxdensity pressure ev x))
 
 pub step_again : (job : Job) (ev : Evaluator) (s : State) → again job s.numbers ≡ s.numbers → again job (step_of job ev s).numbers ≡ (step_of job ev s).numbers
 unfolding again step_of
@@ -142,45 +138,45 @@ unfolding next_of
 not_done ev t ρ u a e q = let z : ◌≡◌ {A = ℕ} 0 1 = ap (λ (x : Search). (next_of finite_of ev x 0 f0).evaluations) (sym e) ∙ ap (λ (g : Going). g.evaluations) q in absurd (omega arith)
 
 module _ (ev : Evaluator) (n : Numbers) (a : Answer) where
-  density_ends : (c : Conditions) (p : DensityPlace) → density_numbers p ≡ n → density_left c p ≡ done a → n ≡ ended_numbers a
+  density_ends : (c : Conditions) (p : Standing DensitySpot) → density_numbers p ≡ n → density_left c p ≡ done a → n ≡ ended_numbers a
   unfolding density_left density_numbers
-  density_ends c (DensityPlace.Ended q) e l = sym e ∙ ap ended_numbers (done_same _ a l)
-  density_ends c (DensityPlace.At x) e l = absurd (not_done ev _ _ _ a l (density_law c ev x 0 f0))
+  density_ends c (Break q) e l = sym e ∙ ap ended_numbers (done_same _ a l)
+  density_ends c (Continue x) e l = absurd (not_done ev _ _ _ a l (density_law c ev x 0 f0))
 
-  stable_ends : (maxdensity t p : Float) (x : StablePlace) → stable_numbers x ≡ n → stable_left maxdensity t p x ≡ done a → n ≡ ended_numbers a
+  stable_ends : (maxdensity t p : Float) (x : Standing StableSpot) → stable_numbers x ≡ n → stable_left maxdensity t p x ≡ done a → n ≡ ended_numbers a
   unfolding stable_left stable_numbers
-  stable_ends maxdensity t p (Stable.Ended q) e l = sym e ∙ ap ended_numbers (done_same _ a l)
-  stable_ends maxdensity t p (Stable.At x) e l = absurd (not_done ev _ _ _ a l (stable_law maxdensity t p ev x 0 f0))
+  stable_ends maxdensity t p (Break q) e l = sym e ∙ ap ended_numbers (done_same _ a l)
+  stable_ends maxdensity t p (Continue x) e l = absurd (not_done ev _ _ _ a l (stable_law maxdensity t p ev x 0 f0))
 
-  spinodal_ends : (maxdensity t : Float) (p : SpinodalPlace) → spinodal_numbers p ≡ n → spinodal_left maxdensity t p ≡ done a → n ≡ ended_numbers a
+  spinodal_ends : (maxdensity t : Float) (p : Progress SpinodalSpot) → spinodal_numbers p ≡ n → spinodal_left maxdensity t p ≡ done a → n ≡ ended_numbers a
   unfolding spinodal_left spinodal_numbers
-  spinodal_ends maxdensity t (Spinodal.Ended q) e l = sym e ∙ ap ended_numbers (done_same _ a l)
-  spinodal_ends maxdensity t (Spinodal.At x) e l = absurd (not_done ev _ _ _ a l (spinodal_law maxdensity t ev x 0 f0))
+  spinodal_ends maxdensity t (Break q) e l = sym e ∙ ap ended_numbers (done_same _ a l)
+  spinodal_ends maxdensity t (Continue x) e l = absurd (not_done ev _ _ _ a l (spinodal_law maxdensity t ev x 0 f0))
 
-  branch_ends : (maxdensity t : Float) (branch : Branch) (p : SpinodalPlace) → spinodal_numbers p ≡ n → branch_left maxdensity t branch p ≡ done a → n ≡ ended_numbers a
+  branch_ends : (maxdensity t : Float) (branch : Branch) (p : Progress SpinodalSpot) → spinodal_numbers p ≡ n → branch_left maxdensity t branch p ≡ done a → n ≡ ended_numbers a
   unfolding branch_left spinodal_numbers
-  branch_ends maxdensity t branch (Spinodal.Ended q) e l = sym e ∙ ap ended_numbers (done_same _ a l)
-  branch_ends maxdensity t branch (Spinodal.At x) e l = absurd (not_done ev _ _ _ a l (branch_law maxdensity t branch ev x 0 f0))
+  branch_ends maxdensity t branch (Break q) e l = sym e ∙ ap ended_numbers (done_same _ a l)
+  branch_ends maxdensity t branch (Continue x) e l = absurd (not_done ev _ _ _ a l (branch_law maxdensity t branch ev x 0 f0))
 
-  critical_ends : (maxdensity ρ : Float) (p : CriticalPlace) → critical_numbers p ≡ n → critical_left maxdensity ρ p ≡ done a → n ≡ ended_numbers a
+  critical_ends : (maxdensity ρ : Float) (p : Progress CriticalSpot) → critical_numbers p ≡ n → critical_left maxdensity ρ p ≡ done a → n ≡ ended_numbers a
   unfolding critical_left critical_numbers
-  critical_ends maxdensity ρ (Critical.Ended q) e l = sym e ∙ ap ended_numbers (done_same _ a l)
-  critical_ends maxdensity ρ (Critical.At x) e l = absurd (not_done ev _ _ _ a l (critical_law maxdensity ρ ev x 0 f0))
+  critical_ends maxdensity ρ (Break q) e l = sym e ∙ ap ended_numbers (done_same _ a l)
+  critical_ends maxdensity ρ (Continue x) e l = absurd (not_done ev _ _ _ a l (critical_law maxdensity ρ ev x 0 f0))
 
-  spinodals_ends : (maxdensity t : Float) (p : SpinodalsPlace) → spinodals_numbers p ≡ n → spinodals_left maxdensity t p ≡ done a → n ≡ ended_numbers a
+  spinodals_ends : (maxdensity t : Float) (p : Progress SpinodalsSpot) → spinodals_numbers p ≡ n → spinodals_left maxdensity t p ≡ done a → n ≡ ended_numbers a
   unfolding spinodals_left spinodals_numbers
-  spinodals_ends maxdensity t (Spinodals.Ended q) e l = sym e ∙ ap ended_numbers (done_same _ a l)
-  spinodals_ends maxdensity t (Spinodals.At x) e l = absurd (not_done ev _ _ _ a l (spinodals_law maxdensity t ev x 0 f0))
+  spinodals_ends maxdensity t (Break q) e l = sym e ∙ ap ended_numbers (done_same _ a l)
+  spinodals_ends maxdensity t (Continue x) e l = absurd (not_done ev _ _ _ a l (spinodals_law maxdensity t ev x 0 f0))
 
-  temperature_ends : (maxdensity t : Float) (p : TemperaturePlace) → temperature_numbers p ≡ n → temperature_left maxdensity t p ≡ done a → n ≡ ended_numbers a
+  temperature_ends : (maxdensity t : Float) (p : Progress TemperatureSpot) → temperature_numbers p ≡ n → temperature_left maxdensity t p ≡ done a → n ≡ ended_numbers a
   unfolding temperature_left temperature_numbers
-  temperature_ends maxdensity t (Temperature.Ended q) e l = sym e ∙ ap ended_numbers (done_same _ a l)
-  temperature_ends maxdensity t (Temperature.At x) e l = absurd (not_done ev _ _ _ a l (temperature_law maxdensity t ev x 0 f0))
+  temperature_ends maxdensity t (Break q) e l = sym e ∙ ap ended_numbers (done_same _ a l)
+  temperature_ends maxdensity t (Continue x) e l = absurd (not_done ev _ _ _ a l (temperature_law maxdensity t ev x 0 f0))
 
-  pressure_ends : (maxdensity pressure : Float) (p : PressurePlace) → pressure_numbers p ≡ n → pressure_left maxdensity pressure p ≡ done a → n ≡ ended_numbers a
+  pressure_ends : (maxdensity pressure : Float) (p : Progress PressureSpot) → pressure_numbers p ≡ n → pressure_left maxdensity pressure p ≡ done a → n ≡ ended_numbers a
   unfolding pressure_left pressure_numbers
-  pressure_ends maxdensity pressure (Pressure.Ended q) e l = sym e ∙ ap ended_numbers (done_same _ a l)
-  pressure_ends maxdensity pressure (Pressure.At x) e l = absurd (not_done ev _ _ _ a l (pressure_law maxdensity pressure ev x 0 f0))
+  pressure_ends maxdensity pressure (Break q) e l = sym e ∙ ap ended_numbers (done_same _ a l)
+  pressure_ends maxdensity pressure (Continue x) e l = absurd (not_done ev _ _ _ a l (pressure_law maxdensity pressure ev x 0 f0))
 
 pub ends : (job : Job) (ev : Evaluator) (n : Numbers) (a : Answer) → again job n ≡ n → left_of job n ≡ done a → n ≡ ended_numbers a
 unfolding again left_of

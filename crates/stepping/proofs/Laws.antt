@@ -3,7 +3,7 @@ use Rattle.std.proofs.Common.{◌≡◌, ℕ, zero, suc, ◌^◌, ◌<◌, true,
 use Rattle.float.specs.Ops.{f0}
 use Rattle.float.specs.Sign.{finite_of}
 use Rattle.eos.specs.declared.types.Blend.{Blend}
-use Rattle.solver.specs.declared.types.Answer.{Answer}
+use Rattle.solver.specs.Answer.{Answer}
 use Rattle.solver.specs.Answer.{status_of, values_of}
 use Rattle.solver.specs.Search.{Evaluator, Search, done, Going, run}
 use Rattle.solver.specs.Evaluated.{evaluated}

@@ -10,20 +10,16 @@ use Rattle.solver.proofs.Ranges.{FitsBelow}
 use Rattle.solver.proofs.Spans.{run_most}
 use Rattle.solver_density.specs.declared.types.Branch.{Branch}
 use Rattle.solver_density.specs.declared.types.Conditions.{Conditions}
-use Rattle.solver_step.specs.declared.types.SpinodalPlace.{SpinodalPlace}
-use Rattle.solver_step.specs.declared.types.SpinodalPlace.TheVariants as Spinodal
-use Rattle.solver_step.specs.declared.types.DensityPlace.{DensityPlace}
-use Rattle.solver_step.specs.declared.types.DensityPlace.TheVariants as DensityPlace
-use Rattle.solver_step.specs.declared.types.StablePlace.{StablePlace}
-use Rattle.solver_step.specs.declared.types.StablePlace.TheVariants as Stable
-use Rattle.solver_critical_step.specs.declared.types.CriticalPlace.{CriticalPlace}
-use Rattle.solver_critical_step.specs.declared.types.CriticalPlace.TheVariants as Critical
-use Rattle.solver_critical_step.specs.declared.types.SpinodalsPlace.{SpinodalsPlace}
-use Rattle.solver_critical_step.specs.declared.types.SpinodalsPlace.TheVariants as Spinodals
-use Rattle.solver_binary_step.specs.declared.types.TemperaturePlace.{TemperaturePlace}
-use Rattle.solver_binary_step.specs.declared.types.TemperaturePlace.TheVariants as Temperature
-use Rattle.solver_binary_step.specs.declared.types.PressurePlace.{PressurePlace}
-use Rattle.solver_binary_step.specs.declared.types.PressurePlace.TheVariants as Pressure
+use Rattle.solver.specs.Answer.{Progress}
+use Rattle.solver_step.specs.declared.types.SpinodalSpot.{SpinodalSpot}
+use Rattle.std.specs.declared.ops.ControlFlow.TheVariants.{Break, Continue}
+use Rattle.solver_step.specs.Phase.{Phase, Standing}
+use Rattle.solver_step.specs.declared.types.DensitySpot.{DensitySpot}
+use Rattle.solver_step.specs.declared.types.StableSpot.{StableSpot}
+use Rattle.solver_critical_step.specs.declared.types.CriticalSpot.{CriticalSpot}
+use Rattle.solver_critical_step.specs.declared.types.SpinodalsSpot.{SpinodalsSpot}
+use Rattle.solver_binary_step.specs.declared.types.TemperatureSpot.{TemperatureSpot}
+use Rattle.solver_binary_step.specs.declared.types.PressureSpot.{PressureSpot}
 use Rattle.solver_state.specs.declared.types.Job.{Job}
 use Rattle.solver_state.specs.declared.types.Job.TheVariants.{Density, StableDensity, PressureSpinodal, BranchSpinodal, CriticalPoint, StabilitySpinodals, CriticalPointBinaryT, CriticalPointBinaryP}
 use Rattle.solver_state.specs.declared.types.State.{State}
@@ -48,45 +44,45 @@ module _ (ev : Evaluator) (s : State) where
   ended_apart : s ≡ added s (uncounted s)
   ended_apart = rw (add-zero s.evaluations)
 
-  density_apart : (c : Conditions) (p : DensityPlace) → density_step c ev p s ≡ added s (density_step c ev p (uncounted s))
+  density_apart : (c : Conditions) (p : Standing DensitySpot) → density_step c ev p s ≡ added s (density_step c ev p (uncounted s))
   unfolding density_step
-  density_apart c (DensityPlace.Ended a) = ended_apart
-  density_apart c (DensityPlace.At x) = refl
+  density_apart c (Break a) = ended_apart
+  density_apart c (Continue x) = refl
 
-  stable_apart : (maxdensity t p : Float) (x : StablePlace) → stable_step maxdensity t p ev x s ≡ added s (stable_step maxdensity t p ev x (uncounted s))
+  stable_apart : (maxdensity t p : Float) (x : Standing StableSpot) → stable_step maxdensity t p ev x s ≡ added s (stable_step maxdensity t p ev x (uncounted s))
   unfolding stable_step
-  stable_apart maxdensity t p (Stable.Ended a) = ended_apart
-  stable_apart maxdensity t p (Stable.At x) = refl
+  stable_apart maxdensity t p (Break a) = ended_apart
+  stable_apart maxdensity t p (Continue x) = refl
 
-  spinodal_apart : (maxdensity t : Float) (p : SpinodalPlace) → spinodal_step maxdensity t ev p s ≡ added s (spinodal_step maxdensity t ev p (uncounted s))
+  spinodal_apart : (maxdensity t : Float) (p : Progress SpinodalSpot) → spinodal_step maxdensity t ev p s ≡ added s (spinodal_step maxdensity t ev p (uncounted s))
   unfolding spinodal_step
-  spinodal_apart maxdensity t (Spinodal.Ended a) = ended_apart
-  spinodal_apart maxdensity t (Spinodal.At x) = refl
+  spinodal_apart maxdensity t (Break a) = ended_apart
+  spinodal_apart maxdensity t (Continue x) = refl
 
-  branch_apart : (maxdensity t : Float) (branch : Branch) (p : SpinodalPlace) → branch_step maxdensity t branch ev p s ≡ added s (branch_step maxdensity t branch ev p (uncounted s))
+  branch_apart : (maxdensity t : Float) (branch : Branch) (p : Progress SpinodalSpot) → branch_step maxdensity t branch ev p s ≡ added s (branch_step maxdensity t branch ev p (uncounted s))
   unfolding branch_step
-  branch_apart maxdensity t branch (Spinodal.Ended a) = ended_apart
-  branch_apart maxdensity t branch (Spinodal.At x) = refl
+  branch_apart maxdensity t branch (Break a) = ended_apart
+  branch_apart maxdensity t branch (Continue x) = refl
 
-  critical_apart : (maxdensity ρ : Float) (p : CriticalPlace) → critical_step maxdensity ρ ev p s ≡ added s (critical_step maxdensity ρ ev p (uncounted s))
+  critical_apart : (maxdensity ρ : Float) (p : Progress CriticalSpot) → critical_step maxdensity ρ ev p s ≡ added s (critical_step maxdensity ρ ev p (uncounted s))
   unfolding critical_step
-  critical_apart maxdensity ρ (Critical.Ended a) = ended_apart
-  critical_apart maxdensity ρ (Critical.At x) = refl
+  critical_apart maxdensity ρ (Break a) = ended_apart
+  critical_apart maxdensity ρ (Continue x) = refl
 
-  spinodals_apart : (maxdensity t : Float) (p : SpinodalsPlace) → spinodals_step maxdensity t ev p s ≡ added s (spinodals_step maxdensity t ev p (uncounted s))
+  spinodals_apart : (maxdensity t : Float) (p : Progress SpinodalsSpot) → spinodals_step maxdensity t ev p s ≡ added s (spinodals_step maxdensity t ev p (uncounted s))
   unfolding spinodals_step
-  spinodals_apart maxdensity t (Spinodals.Ended a) = ended_apart
-  spinodals_apart maxdensity t (Spinodals.At x) = refl
+  spinodals_apart maxdensity t (Break a) = ended_apart
+  spinodals_apart maxdensity t (Continue x) = refl
 
-  temperature_apart : (maxdensity t : Float) (p : TemperaturePlace) → temperature_step maxdensity t ev p s ≡ added s (temperature_step maxdensity t ev p (uncounted s))
+  temperature_apart : (maxdensity t : Float) (p : Progress TemperatureSpot) → temperature_step maxdensity t ev p s ≡ added s (temperature_step maxdensity t ev p (uncounted s))
   unfolding temperature_step
-  temperature_apart maxdensity t (Temperature.Ended a) = ended_apart
-  temperature_apart maxdensity t (Temperature.At x) = refl
+  temperature_apart maxdensity t (Break a) = ended_apart
+  temperature_apart maxdensity t (Continue x) = refl
 
-  pressure_apart : (maxdensity pressure : Float) (p : PressurePlace) → pressure_step maxdensity pressure ev p s ≡ added s (pressure_step maxdensity pressure ev p (uncounted s))
+  pressure_apart : (maxdensity pressure : Float) (p : Progress PressureSpot) → pressure_step maxdensity pressure ev p s ≡ added s (pressure_step maxdensity pressure ev p (uncounted s))
   unfolding pressure_step
-  pressure_apart maxdensity pressure (Pressure.Ended a) = ended_apart
-  pressure_apart maxdensity pressure (Pressure.At x) = refl
+  pressure_apart maxdensity pressure (Break a) = ended_apart
+  pressure_apart maxdensity pressure (Continue x) = refl
 
 pub step_apart : (job : Job) (ev : Evaluator) (s : State) → step_of job ev s ≡ added s (step_of job ev (uncounted s))
 unfolding step_of

@@ -2,7 +2,7 @@
 use Rattle.std.proofs.Common.{◌≡◌, ℕ, zero, suc, ◌+◌, ◌≤◌, min, Bool, sym, refl, ap, ◌∙◌, arith}
 use native.Mathlib.Nat.{zero-min, suc-min-suc}
 use lib.Ieee.{Float}
-use Rattle.solver.specs.declared.types.Answer.{Answer}
+use Rattle.solver.specs.Answer.{Answer}
 use Rattle.solver.specs.declared.types.Ran.{Ran}
 use Rattle.solver.specs.Search.{Query, Yield, density_of, Evaluator, Search, done, ask, test, run, settle, Going, next_of, next, after}
 use Rattle.solver.proofs.Runs.{run_from}

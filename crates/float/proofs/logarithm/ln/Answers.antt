@@ -5,7 +5,6 @@ use borrow.Author.Rules.{rules}
 use mathlib.Core.Bool.{true}
 use lib.Ieee.{inf, binary64}
 use lib.Ieee.Bits.{of_bits-to_bits}
-use mathlib.Core.Bool.{true}
 use Rattle.float.specs.Ln.{ln_units, ln_of}
 use Rattle.float.proofs.Casts.{held}
 use Rattle.float.proofs.SignLaws.{nan_only, zero_is}

@@ -2,10 +2,10 @@
 use Rattle.solver.specs.Answer.{status_of}
 use Rattle.solver.proofs.answer.status.Goals as goal
 
-pub returns-in-Found : goal.returns-in-Found
+pub returns-in-Ok : goal.returns-in-Ok
 unfolding status_of
-returns-in-Found c = rw c.in-Found.is
+returns-in-Ok c = rw c.in-Ok.is
 
-pub returns-in-Refused : goal.returns-in-Refused
+pub returns-in-Err : goal.returns-in-Err
 unfolding status_of
-returns-in-Refused c = rw (c.in-Refused.is, ← c.refusal_number.ensures)
+returns-in-Err c = rw (c.in-Err.is, ← c.refusal_number.ensures)

@@ -2,10 +2,10 @@
 use Rattle.solver_binary_step.specs.Stored.{temperature_numbers}
 use Rattle.solver_binary_step.proofs.stored.temperature_numbers.Goals as goal
 
-pub returns-in-Ended : goal.returns-in-Ended
+pub returns-in-Break : goal.returns-in-Break
 unfolding temperature_numbers
-returns-in-Ended c = rw (c.in-Ended.is, ← c.ended_numbers.ensures)
+returns-in-Break c = rw (c.in-Break.is, ← c.ended_numbers.ensures)
 
-pub returns-in-At : goal.returns-in-At
+pub returns-in-Continue : goal.returns-in-Continue
 unfolding temperature_numbers
-returns-in-At c = rw (c.in-At.is, ← c.spot_numbers.ensures)
+returns-in-Continue c = rw (c.in-Continue.is, ← c.spot_numbers.ensures)

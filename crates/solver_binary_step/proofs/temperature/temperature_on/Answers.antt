@@ -5,11 +5,11 @@ use Rattle.solver_binary_step.proofs.temperature.temperature_on.Goals as goal
 
 pub returns-then-rounds-eq0 : goal.returns-then-rounds-eq0
 unfolding temperature_on
-returns-then-rounds-eq0 c = rw (c.in-Next.is, c.if-rounds-eq0.true)
+returns-then-rounds-eq0 c = rw (c.in-Continue.is, c.if-rounds-eq0.true)
 
-pub returns-in-End : goal.returns-in-End
+pub returns-in-Break : goal.returns-in-Break
 unfolding temperature_on
-returns-in-End c = rw c.in-End.is
+returns-in-Break c = rw c.in-Break.is
 
 pub returns-else-rounds-eq0 : goal.returns-else-rounds-eq0
-returns-else-rounds-eq0 c = rw c.in-Next.is (temperature_more _ _ c.if-rounds-eq0.false)
+returns-else-rounds-eq0 c = rw c.in-Continue.is (temperature_more _ _ c.if-rounds-eq0.false)

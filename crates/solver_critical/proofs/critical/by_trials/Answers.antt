@@ -31,14 +31,14 @@ overflow_sub-left c = omega arith
 pub overflow_add-evaluations : goal.overflow_add-evaluations
 overflow_add-evaluations c = omega arith
 
-pub trials-smaller-in-Refused : goal.trials-smaller-in-Refused
-trials-smaller-in-Refused c = omega arith
+pub trials-smaller-in-Err : goal.trials-smaller-in-Err
+trials-smaller-in-Err c = omega arith
 
-pub trials-preserved-in-Refused : goal.trials-preserved-in-Refused
-trials-preserved-in-Refused c =
+pub trials-preserved-in-Err : goal.trials-preserved-in-Err
+trials-preserved-in-Err c =
     let after_round : ran c.args.blend (c.loop-left.evaluations + 1) (bind (led c.critical_round-outcome.result (hkm_from c.args.maxdensity (c.loop-left.left - 1))) (or_else (trials c.args.maxdensity c.args.rho (drop (c.trials.trial + 1) trial_temperatures)))) ≡ ran c.args.blend 0 (trials c.args.maxdensity c.args.rho trial_temperatures) =
     trial_turn _ _ _ _ c.loop-left.left c.loop-left.evaluations _ _ _ c.loop-left-test.true c.criticality_conditions-y.ensures c.critical_round-outcome.ensures c.loop-left.invariant.3 in
-    let L = c.loop-left in (L.invariant.0, L.invariant.1, omega arith, trial_fails _ _ _ _ _ _ _ _ c.in-End.is c.in-Refused.is after_round)
+    let L = c.loop-left in (L.invariant.0, L.invariant.1, omega arith, trial_fails _ _ _ _ _ _ _ _ c.in-Break.is c.in-Err.is after_round)
 
 pub loop-left-smaller : goal.loop-left-smaller
 loop-left-smaller c = omega arith
@@ -47,13 +47,13 @@ pub loop-left-preserved : goal.loop-left-preserved
 loop-left-preserved c =
     let after_round : ran c.args.blend (c.loop-left.evaluations + 1) (bind (led c.critical_round-outcome.result (hkm_from c.args.maxdensity (c.loop-left.left - 1))) (or_else (trials c.args.maxdensity c.args.rho (drop (c.trials.trial + 1) trial_temperatures)))) ≡ ran c.args.blend 0 (trials c.args.maxdensity c.args.rho trial_temperatures) =
     trial_turn _ _ _ _ c.loop-left.left c.loop-left.evaluations _ _ _ c.loop-left-test.true c.criticality_conditions-y.ensures c.critical_round-outcome.ensures c.loop-left.invariant.3 in
-    let L = c.loop-left in (L.invariant.0, L.invariant.1, omega arith, round_moves _ _ _ _ _ _ _ c.in-Next.is after_round)
+    let L = c.loop-left in (L.invariant.0, L.invariant.1, omega arith, round_moves _ _ _ _ _ _ _ c.in-Continue.is after_round)
 
 pub returns-after-trials : goal.returns-after-trials
 returns-after-trials c = let T = c.trials in trials_over _ _ _ T.trial _ _ _ c.trials-test.false T.invariant.0 T.invariant.3
 
-pub returns-in-Found : goal.returns-in-Found
-returns-in-Found c =
+pub returns-in-Ok : goal.returns-in-Ok
+returns-in-Ok c =
     let after_round : ran c.args.blend (c.loop-left.evaluations + 1) (bind (led c.critical_round-outcome.result (hkm_from c.args.maxdensity (c.loop-left.left - 1))) (or_else (trials c.args.maxdensity c.args.rho (drop (c.trials.trial + 1) trial_temperatures)))) ≡ ran c.args.blend 0 (trials c.args.maxdensity c.args.rho trial_temperatures) =
     trial_turn _ _ _ _ c.loop-left.left c.loop-left.evaluations _ _ _ c.loop-left-test.true c.criticality_conditions-y.ensures c.critical_round-outcome.ensures c.loop-left.invariant.3 in
-    trial_found _ _ _ _ _ _ _ _ c.in-End.is c.in-Found.is after_round
+    trial_found _ _ _ _ _ _ _ _ c.in-Break.is c.in-Ok.is after_round

@@ -6,6 +6,6 @@ pub returns-in-None : goal.returns-in-None
 unfolding critical_point from_temperature
 returns-in-None c = rw (c.in-None.is, ← c.start_density-rho.ensures) c.by_trials.ensures
 
-pub returns-in-Given : goal.returns-in-Given
+pub returns-in-Some : goal.returns-in-Some
 unfolding critical_point from_temperature
-returns-in-Given c = rw (c.in-Given.is, ← c.start_density-rho.ensures) c.critical_point_hkm.ensures
+returns-in-Some c = rw (c.in-Some.is, ← c.start_density-rho.ensures) c.critical_point_hkm.ensures

@@ -6,6 +6,6 @@ pub returns-in-None : goal.returns-in-None
 unfolding start_density
 returns-in-None c = rw c.in-None.is
 
-pub returns-in-Given : goal.returns-in-Given
+pub returns-in-Some : goal.returns-in-Some
 unfolding start_density
-returns-in-Given c = rw c.in-Given.is
+returns-in-Some c = rw c.in-Some.is

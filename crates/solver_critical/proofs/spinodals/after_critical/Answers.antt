@@ -8,10 +8,10 @@ use Rattle.solver_critical.proofs.spinodals.after_critical.Goals as goal
 pub overflow_add-result : goal.overflow_add-result
 overflow_add-result c = let v = part_most _ 50 _ c.calculate_spinodal-s.result (calculate_50 _ _ _) c.calculate_spinodal-s.ensures in let l = part_most _ 50 _ c.after_vapor-l.result (vapor_50 _ _ _ _) c.after_vapor-l.ensures in omega arith
 
-pub returns-in-Found : goal.returns-in-Found
+pub returns-in-Ok : goal.returns-in-Ok
 unfolding after_critical
-returns-in-Found c = then_found _ _ _ c.calculate_spinodal-s.result _ c.after_vapor-l.result c.calculate_spinodal-s.ensures c.in-Found.is c.after_vapor-l.ensures
+returns-in-Ok c = then_found _ _ _ c.calculate_spinodal-s.result _ c.after_vapor-l.result c.calculate_spinodal-s.ensures c.in-Ok.is c.after_vapor-l.ensures
 
-pub returns-in-Refused : goal.returns-in-Refused
+pub returns-in-Err : goal.returns-in-Err
 unfolding after_critical
-returns-in-Refused c = then_refused _ _ _ c.calculate_spinodal-s.result _ c.calculate_spinodal-s.ensures c.in-Refused.is
+returns-in-Err c = then_refused _ _ _ c.calculate_spinodal-s.result _ c.calculate_spinodal-s.ensures c.in-Err.is

@@ -17,12 +17,12 @@ overflow_sub-left c = omega arith
 pub overflow_add-evaluations : goal.overflow_add-evaluations
 overflow_add-evaluations c = omega arith
 
-pub returns-in-End : goal.returns-in-End
+pub returns-in-Break : goal.returns-in-Break
 unfolding stability_led run calculate_spinodal
-returns-in-End c =
+returns-in-Break c =
     let after_round : ran c.args.blend (c.loop-left.evaluations + 1) (stability_led c.stability_round-outcome.result (spinodal_from c.args.maxdensity c.args.temperature (c.loop-left.left - 1))) ≡ ran c.args.blend 0 (spinodal_from c.args.maxdensity c.args.temperature 50 c.spinodal_start-rho.result) =
     stability_turn _ _ _ _ c.loop-left.left c.loop-left.evaluations _ _ _ c.loop-left-test.true c.stability_condition-y.ensures c.stability_round-outcome.ensures c.loop-left.invariant.1 in
-    rw (← c.spinodal_start-rho.ensures) (rw c.in-End.is at after_round)
+    rw (← c.spinodal_start-rho.ensures) (rw c.in-Break.is at after_round)
 
 pub loop-left-smaller : goal.loop-left-smaller
 loop-left-smaller c = omega arith
@@ -32,7 +32,7 @@ unfolding stability_led
 loop-left-preserved c =
     let after_round : ran c.args.blend (c.loop-left.evaluations + 1) (stability_led c.stability_round-outcome.result (spinodal_from c.args.maxdensity c.args.temperature (c.loop-left.left - 1))) ≡ ran c.args.blend 0 (spinodal_from c.args.maxdensity c.args.temperature 50 c.spinodal_start-rho.result) =
     stability_turn _ _ _ _ c.loop-left.left c.loop-left.evaluations _ _ _ c.loop-left-test.true c.stability_condition-y.ensures c.stability_round-outcome.ensures c.loop-left.invariant.1 in
-    (omega arith, rw c.in-Next.is at after_round)
+    (omega arith, rw c.in-Continue.is at after_round)
 
 pub returns : goal.returns
 unfolding calculate_spinodal

@@ -8,10 +8,10 @@ use Rattle.solver_critical.proofs.spinodals.spinodal_search.Goals as goal
 pub overflow_add-result : goal.overflow_add-result
 overflow_add-result c = let a = part_most _ 150 _ c.critical_search-s.result (critical_150 _ _ _) c.critical_search-s.ensures in let b = part_most _ 100 _ c.after_critical-both.result (after_critical_100 _ _ _) c.after_critical-both.ensures in omega arith
 
-pub returns-in-Found : goal.returns-in-Found
+pub returns-in-Ok : goal.returns-in-Ok
 unfolding spinodal
-returns-in-Found c = then_found _ _ _ c.critical_search-s.result _ c.after_critical-both.result c.critical_search-s.ensures c.in-Found.is c.after_critical-both.ensures
+returns-in-Ok c = then_found _ _ _ c.critical_search-s.result _ c.after_critical-both.result c.critical_search-s.ensures c.in-Ok.is c.after_critical-both.ensures
 
-pub returns-in-Refused : goal.returns-in-Refused
+pub returns-in-Err : goal.returns-in-Err
 unfolding spinodal
-returns-in-Refused c = then_refused _ _ _ c.critical_search-s.result _ c.critical_search-s.ensures c.in-Refused.is
+returns-in-Err c = then_refused _ _ _ c.critical_search-s.result _ c.critical_search-s.ensures c.in-Err.is

@@ -6,6 +6,6 @@ pub returns-in-None : goal.returns-in-None
 unfolding critical_begin
 returns-in-None c = rw (c.in-None.is, ← c.trial_at.ensures)
 
-pub returns-in-Given : goal.returns-in-Given
+pub returns-in-Some : goal.returns-in-Some
 unfolding critical_begin
-returns-in-Given c = rw (c.in-Given.is, ← c.hkm_start.ensures)
+returns-in-Some c = rw (c.in-Some.is, ← c.hkm_start.ensures)

@@ -2,10 +2,10 @@
 use Rattle.solver_critical_step.specs.CriticalStep.{given_on}
 use Rattle.solver_critical_step.proofs.critical.given_on.Goals as goal
 
-pub returns-in-Ended : goal.returns-in-Ended
+pub returns-in-Break : goal.returns-in-Break
 unfolding given_on
-returns-in-Ended c = rw c.in-Ended.is
+returns-in-Break c = rw c.in-Break.is
 
-pub returns-in-At : goal.returns-in-At
+pub returns-in-Continue : goal.returns-in-Continue
 unfolding given_on
-returns-in-At c = rw c.in-At.is
+returns-in-Continue c = rw c.in-Continue.is

@@ -1,15 +1,16 @@
 -- `solver_critical_step::spinodals::liquid_on`.
+use Rattle.std.specs.Prelude.{Ok, Err}
 use Rattle.solver_critical_step.specs.SpinodalsStep.{liquid_on}
 use Rattle.solver_critical_step.proofs.spinodals.liquid_on.Goals as goal
 
-pub returns-in-Found : goal.returns-in-Found
+pub returns-in-Ok : goal.returns-in-Ok
 unfolding liquid_on
-returns-in-Found c = rw (c.in-Ended.is, c.in-Found.is, ← c.both_answer.ensures)
+returns-in-Ok c = rw (c.in-Break.is, c.in-Ok.is, ← c.both_answer.ensures)
 
-pub returns-in-Refused : goal.returns-in-Refused
+pub returns-in-Err : goal.returns-in-Err
 unfolding liquid_on
-returns-in-Refused c = rw (c.in-Ended.is, c.in-Refused.is)
+returns-in-Err c = rw (c.in-Break.is, c.in-Err.is)
 
-pub returns-in-At : goal.returns-in-At
+pub returns-in-Continue : goal.returns-in-Continue
 unfolding liquid_on
-returns-in-At c = rw c.in-At.is
+returns-in-Continue c = rw c.in-Continue.is

@@ -1,15 +1,16 @@
 -- `solver_critical_step::spinodals::vapor_on`.
+use Rattle.std.specs.Prelude.{Ok, Err}
 use Rattle.solver_critical_step.specs.SpinodalsStep.{vapor_on}
 use Rattle.solver_critical_step.proofs.spinodals.vapor_on.Goals as goal
 
-pub returns-in-Found : goal.returns-in-Found
+pub returns-in-Ok : goal.returns-in-Ok
 unfolding vapor_on
-returns-in-Found c = rw (c.in-Ended.is, c.in-Found.is, ← c.liquid_start.ensures, ← c.stability_start-at.ensures)
+returns-in-Ok c = rw (c.in-Break.is, c.in-Ok.is, ← c.liquid_start.ensures, ← c.stability_start-at.ensures)
 
-pub returns-in-Refused : goal.returns-in-Refused
+pub returns-in-Err : goal.returns-in-Err
 unfolding vapor_on
-returns-in-Refused c = rw (c.in-Ended.is, c.in-Refused.is)
+returns-in-Err c = rw (c.in-Break.is, c.in-Err.is)
 
-pub returns-in-At : goal.returns-in-At
+pub returns-in-Continue : goal.returns-in-Continue
 unfolding vapor_on
-returns-in-At c = rw c.in-At.is
+returns-in-Continue c = rw c.in-Continue.is

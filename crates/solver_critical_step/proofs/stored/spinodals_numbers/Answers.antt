@@ -2,18 +2,18 @@
 use Rattle.solver_critical_step.specs.Stored.{spinodals_numbers}
 use Rattle.solver_critical_step.proofs.stored.spinodals_numbers.Goals as goal
 
-pub returns-in-Ended : goal.returns-in-Ended
+pub returns-in-Break : goal.returns-in-Break
 unfolding spinodals_numbers
-returns-in-Ended c = rw (c.in-Ended.is, ← c.ended_numbers.ensures)
+returns-in-Break c = rw (c.in-Break.is, ← c.ended_numbers.ensures)
 
 pub returns-in-CriticalSearch : goal.returns-in-CriticalSearch
 unfolding spinodals_numbers
-returns-in-CriticalSearch c = rw (c.in-At.is, c.in-CriticalSearch.is, ← c.critical_spot_numbers.ensures)
+returns-in-CriticalSearch c = rw (c.in-Continue.is, c.in-CriticalSearch.is, ← c.critical_spot_numbers.ensures)
 
 pub returns-in-VaporSpinodal : goal.returns-in-VaporSpinodal
 unfolding spinodals_numbers
-returns-in-VaporSpinodal c = rw (c.in-At.is, c.in-VaporSpinodal.is, ← c.spot_numbers.ensures)
+returns-in-VaporSpinodal c = rw (c.in-Continue.is, c.in-VaporSpinodal.is, ← c.spot_numbers.ensures)
 
 pub returns-in-LiquidSpinodal : goal.returns-in-LiquidSpinodal
 unfolding spinodals_numbers
-returns-in-LiquidSpinodal c = rw (c.in-At.is, c.in-LiquidSpinodal.is, ← c.spot_numbers-in-LiquidSpinodal.ensures)
+returns-in-LiquidSpinodal c = rw (c.in-Continue.is, c.in-LiquidSpinodal.is, ← c.spot_numbers-in-LiquidSpinodal.ensures)

@@ -8,10 +8,10 @@ use Rattle.solver_density.proofs.density.by_both.Goals as goal
 pub overflow_add-result : goal.overflow_add-result
 overflow_add-result c = let l = part_most _ 30 _ c.branch_search-s.result (branch_30 _ _ _) c.branch_search-s.ensures in let m = part_most _ 30 _ c.by_vapor-v.result (vapor_30 _ _ _) c.by_vapor-v.ensures in omega arith
 
-pub returns-in-Found : goal.returns-in-Found
+pub returns-in-Ok : goal.returns-in-Ok
 unfolding detour
-returns-in-Found c = then_found _ _ _ c.branch_search-s.result _ c.by_vapor-v.result c.branch_search-s.ensures c.in-Found.is c.by_vapor-v.ensures
+returns-in-Ok c = then_found _ _ _ c.branch_search-s.result _ c.by_vapor-v.result c.branch_search-s.ensures c.in-Ok.is c.by_vapor-v.ensures
 
-pub returns-in-Refused : goal.returns-in-Refused
+pub returns-in-Err : goal.returns-in-Err
 unfolding detour
-returns-in-Refused c = then_refused _ _ _ c.branch_search-s.result _ c.branch_search-s.ensures c.in-Refused.is
+returns-in-Err c = then_refused _ _ _ c.branch_search-s.result _ c.branch_search-s.ensures c.in-Err.is

@@ -58,14 +58,14 @@ iteration-preserved c =
     part_most _ 61 _ c.unstable-d.result (unstable_61 _ _ _) c.unstable-d.ensures in
     let after_slope_lem : ran c.args.blend (c.iteration.evaluations + 1) (slope_led c.slope_round-outcome.result (in_unstable c.args.blend c.args.c (c.iteration.left - 1) c.iteration.rho) (density_from c.args.c (c.iteration.left - 1))) ≡ ran c.args.blend 1 (density_from c.args.c c.args.rounds c.args.start) =
     slope_turn _ _ _ c.iteration.left c.iteration.evaluations _ _ _ c.iteration-test.true c.p_dpdrho-y.ensures c.slope_round-outcome.ensures c.iteration.invariant.1 in
-    let m = most in (omega arith, part_found _ _ _ _ c.unstable-d.result _ c.unstable-d.ensures c.in-Found.is ∙ rw c.in-Unstable.is at after_slope_lem)
+    let m = most in (omega arith, part_found _ _ _ _ c.unstable-d.result _ c.unstable-d.ensures c.in-Ok.is ∙ rw c.in-Unstable.is at after_slope_lem)
 
-pub returns-in-Refused : goal.returns-in-Refused
+pub returns-in-Err : goal.returns-in-Err
 unfolding slope_led
-returns-in-Refused c =
+returns-in-Err c =
     let after_slope_lem : ran c.args.blend (c.iteration.evaluations + 1) (slope_led c.slope_round-outcome.result (in_unstable c.args.blend c.args.c (c.iteration.left - 1) c.iteration.rho) (density_from c.args.c (c.iteration.left - 1))) ≡ ran c.args.blend 1 (density_from c.args.c c.args.rounds c.args.start) =
     slope_turn _ _ _ c.iteration.left c.iteration.evaluations _ _ _ c.iteration-test.true c.p_dpdrho-y.ensures c.slope_round-outcome.ensures c.iteration.invariant.1 in
-    part_refused _ _ _ _ c.unstable-d.result _ c.unstable-d.ensures c.in-Refused.is ∙ rw c.in-Unstable.is at after_slope_lem
+    part_refused _ _ _ _ c.unstable-d.result _ c.unstable-d.ensures c.in-Err.is ∙ rw c.in-Unstable.is at after_slope_lem
 
 pub returns : goal.returns
 returns c = density_over _ _ _ _ _ _ c.iteration-test.false c.iteration.invariant.1

@@ -2,8 +2,8 @@
 use Rattle.solver_density.proofs.Runs.{branch_found, branch_refused}
 use Rattle.solver_density.proofs.spinodal.branch_search.Goals as goal
 
-pub returns-in-Found : goal.returns-in-Found
-returns-in-Found c = branch_found _ _ _ _ _ c.spinodal_search-s.result c.branch_start.ensures c.spinodal_search-s.ensures _ _ c.in-Found.is c.branch_answer.ensures
+pub returns-in-Ok : goal.returns-in-Ok
+returns-in-Ok c = branch_found _ _ _ _ _ c.spinodal_search-s.result c.branch_start.ensures c.spinodal_search-s.ensures _ _ c.in-Ok.is c.branch_answer.ensures
 
-pub returns-in-Refused : goal.returns-in-Refused
-returns-in-Refused c = branch_refused _ _ _ _ _ c.spinodal_search-s.result c.branch_start.ensures c.spinodal_search-s.ensures _ c.in-Refused.is
+pub returns-in-Err : goal.returns-in-Err
+returns-in-Err c = branch_refused _ _ _ _ _ c.spinodal_search-s.result c.branch_start.ensures c.spinodal_search-s.ensures _ c.in-Err.is

@@ -22,12 +22,12 @@ overflow_sub-left c = omega arith
 pub overflow_add-evaluations : goal.overflow_add-evaluations
 overflow_add-evaluations c = omega arith
 
-pub returns-in-End : goal.returns-in-End
+pub returns-in-Break : goal.returns-in-Break
 unfolding led run
-returns-in-End c =
+returns-in-Break c =
     let after_round : ran c.args.blend (c.loop-left.evaluations + 1) (led c.spinodal_round-outcome.result (spinodal_from c.args.maxdensity c.args.temperature (c.loop-left.left - 1))) ≡ ran c.args.blend 0 (pressure_spinodal c.args.maxdensity c.args.temperature c.args.start) =
     spinodal_turn _ _ _ _ c.loop-left.left c.loop-left.evaluations _ _ _ c.loop-left-test.true c.p_dpdrho_d2pdrho2-y.ensures c.spinodal_round-outcome.ensures c.loop-left.invariant.1 in
-    rw c.in-End.is at after_round
+    rw c.in-Break.is at after_round
 
 pub loop-left-smaller : goal.loop-left-smaller
 loop-left-smaller c = omega arith
@@ -37,7 +37,7 @@ unfolding led
 loop-left-preserved c =
     let after_round : ran c.args.blend (c.loop-left.evaluations + 1) (led c.spinodal_round-outcome.result (spinodal_from c.args.maxdensity c.args.temperature (c.loop-left.left - 1))) ≡ ran c.args.blend 0 (pressure_spinodal c.args.maxdensity c.args.temperature c.args.start) =
     spinodal_turn _ _ _ _ c.loop-left.left c.loop-left.evaluations _ _ _ c.loop-left-test.true c.p_dpdrho_d2pdrho2-y.ensures c.spinodal_round-outcome.ensures c.loop-left.invariant.1 in
-    (omega arith, rw c.in-Next.is at after_round)
+    (omega arith, rw c.in-Continue.is at after_round)
 
 pub returns : goal.returns
 returns c = spinodal_over _ _ _ _ _ _ _ c.loop-left-test.false c.loop-left.invariant.1

@@ -3,18 +3,18 @@ use Rattle.solver.specs.Search.{run}
 use Rattle.solver_density.specs.Stable.{stable_phase}
 use Rattle.solver_density.proofs.stable.stable_phase.Goals as goal
 
-pub returns-in-Found-vapor : goal.returns-in-Found-vapor
+pub returns-in-Ok-vapor : goal.returns-in-Ok-vapor
 unfolding stable_phase run
-returns-in-Found-vapor c = rw (c.in-Found.is, c.in-Found-vapor.is, ← c.potentials.ensures)
+returns-in-Ok-vapor c = rw (c.in-Ok.is, c.in-Ok-vapor.is, ← c.potentials.ensures)
 
-pub returns-in-Refused-vapor : goal.returns-in-Refused-vapor
+pub returns-in-Err-vapor : goal.returns-in-Err-vapor
 unfolding stable_phase run
-returns-in-Refused-vapor c = rw (c.in-Found.is, c.in-Refused-vapor.is)
+returns-in-Err-vapor c = rw (c.in-Ok.is, c.in-Err-vapor.is)
 
-pub returns-in-Found-vapor-2 : goal.returns-in-Found-vapor-2
+pub returns-in-Ok-vapor-2 : goal.returns-in-Ok-vapor-2
 unfolding stable_phase run
-returns-in-Found-vapor-2 c = rw (c.in-Refused.is, c.in-Found-vapor-2.is)
+returns-in-Ok-vapor-2 c = rw (c.in-Err.is, c.in-Ok-vapor-2.is)
 
-pub returns-in-Refused-vapor-2 : goal.returns-in-Refused-vapor-2
+pub returns-in-Err-vapor-2 : goal.returns-in-Err-vapor-2
 unfolding stable_phase run
-returns-in-Refused-vapor-2 c = rw (c.in-Refused.is, c.in-Refused-vapor-2.is)
+returns-in-Err-vapor-2 c = rw (c.in-Err.is, c.in-Err-vapor-2.is)

@@ -1,11 +1,12 @@
 -- `solver_step::density::arrived_at`.
+use Rattle.std.specs.Prelude.{Ok, Err}
 use Rattle.solver_step.specs.DensityStep.{arrived_at}
 use Rattle.solver_step.proofs.density.arrived_at.Goals as goal
 
-pub returns-in-Found : goal.returns-in-Found
+pub returns-in-Ok : goal.returns-in-Ok
 unfolding arrived_at
-returns-in-Found c = rw (c.in-Found.is, ← c.slope_at.ensures)
+returns-in-Ok c = rw (c.in-Ok.is, ← c.slope_at.ensures)
 
-pub returns-in-Refused : goal.returns-in-Refused
+pub returns-in-Err : goal.returns-in-Err
 unfolding arrived_at
-returns-in-Refused c = rw c.in-Refused.is
+returns-in-Err c = rw c.in-Err.is

@@ -1,11 +1,12 @@
 -- `solver_step::density::phase_answer`.
+use Rattle.std.specs.Prelude.{Ok, Err}
 use Rattle.solver_step.specs.DensityStep.{phase_answer}
 use Rattle.solver_step.proofs.density.phase_answer.Goals as goal
 
-pub returns-in-Found : goal.returns-in-Found
+pub returns-in-Ok : goal.returns-in-Ok
 unfolding phase_answer
-returns-in-Found c = rw (c.in-Found.is, ← c.found_density.ensures)
+returns-in-Ok c = rw (c.in-Ok.is, ← c.found_density.ensures)
 
-pub returns-in-Failed : goal.returns-in-Failed
+pub returns-in-Err : goal.returns-in-Err
 unfolding phase_answer
-returns-in-Failed c = rw c.in-Failed.is
+returns-in-Err c = rw c.in-Err.is

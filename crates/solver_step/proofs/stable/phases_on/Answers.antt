@@ -1,19 +1,20 @@
 -- `solver_step::stable::phases_on`.
+use Rattle.std.specs.Prelude.{Ok, Err}
 use Rattle.solver_step.specs.StableStep.{phases_on}
 use Rattle.solver_step.proofs.stable.phases_on.Goals as goal
 
-pub returns-in-Found-vapor : goal.returns-in-Found-vapor
+pub returns-in-Ok-vapor : goal.returns-in-Ok-vapor
 unfolding phases_on
-returns-in-Found-vapor c = rw (c.in-Found.is, c.in-Found-vapor.is)
+returns-in-Ok-vapor c = rw (c.in-Ok.is, c.in-Ok-vapor.is)
 
-pub returns-in-Failed-vapor : goal.returns-in-Failed-vapor
+pub returns-in-Err-vapor : goal.returns-in-Err-vapor
 unfolding phases_on
-returns-in-Failed-vapor c = rw (c.in-Found.is, c.in-Failed-vapor.is)
+returns-in-Err-vapor c = rw (c.in-Ok.is, c.in-Err-vapor.is)
 
-pub returns-in-Found-vapor-2 : goal.returns-in-Found-vapor-2
+pub returns-in-Ok-vapor-2 : goal.returns-in-Ok-vapor-2
 unfolding phases_on
-returns-in-Found-vapor-2 c = rw (c.in-Failed.is, c.in-Found-vapor-2.is)
+returns-in-Ok-vapor-2 c = rw (c.in-Err.is, c.in-Ok-vapor-2.is)
 
-pub returns-in-Failed-vapor-2 : goal.returns-in-Failed-vapor-2
+pub returns-in-Err-vapor-2 : goal.returns-in-Err-vapor-2
 unfolding phases_on
-returns-in-Failed-vapor-2 c = rw (c.in-Failed.is, c.in-Failed-vapor-2.is)
+returns-in-Err-vapor-2 c = rw (c.in-Err.is, c.in-Err-vapor-2.is)

@@ -2,10 +2,10 @@
 use Rattle.solver_step.specs.StableStep.{vapor_search_on}
 use Rattle.solver_step.proofs.stable.vapor_search_on.Goals as goal
 
-pub returns-in-Ended : goal.returns-in-Ended
+pub returns-in-Break : goal.returns-in-Break
 unfolding vapor_search_on
-returns-in-Ended c = rw (c.in-Ended.is, ← c.phases_on.ensures)
+returns-in-Break c = rw (c.in-Break.is, ← c.phases_on.ensures)
 
-pub returns-in-At : goal.returns-in-At
+pub returns-in-Continue : goal.returns-in-Continue
 unfolding vapor_search_on
-returns-in-At c = rw c.in-At.is
+returns-in-Continue c = rw c.in-Continue.is
