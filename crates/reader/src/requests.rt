@@ -16,7 +16,6 @@ use block::{
 };
 use eos::Blend;
 use solver::DensityInitialization;
-use solver_critical::Start;
 use solver_density::Branch;
 
 fn initial(choice: u64, start: f64) -> DensityInitialization
@@ -40,7 +39,7 @@ fn branch(choice: u64) -> Branch
     Branch::Liquid
 }
 
-fn given(x: f64) -> Start
+fn given(x: f64) -> Option<f64>
     ensures { result ≡ given_of x }
 {
     if is_plus_zero(x) {

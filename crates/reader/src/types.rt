@@ -1,7 +1,6 @@
 // The job that a request asks for.
 use eos::Blend;
 use solver::DensityInitialization;
-use solver_critical::Start;
 use solver_density::Branch;
 
 // What a job does, under the names of the Rust's functions; or the number of the refusal.

@@ -6,6 +6,7 @@ ghost use Rattle.solver_binary_step.specs.BinaryStep.{pressure_on, pressure_begi
 use crate::types::PressureSpot;
 use eos::Blend;
 use solver::{Progress, Refusal};
+use solver_binary::Unknowns;
 use std::ops::ControlFlow;
 
 // where a round leads, `rounds` being left

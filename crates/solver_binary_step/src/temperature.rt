@@ -6,6 +6,7 @@ ghost use Rattle.solver_binary_step.specs.BinaryStep.{temperature_on, temperatur
 use crate::types::TemperatureSpot;
 use eos::Blend;
 use solver::{Progress, Refusal};
+use solver_binary::Densities;
 use std::ops::ControlFlow;
 
 // where a round leads, `rounds` being left

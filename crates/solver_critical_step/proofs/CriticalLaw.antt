@@ -1,4 +1,5 @@
 -- Kinds 5 and 7: a spot's evaluation is the one that the search left there makes. Assumes nothing.
+use Rattle.std.specs.declared.option.Option.TheVariants.{None, Some}
 use mathlib.Core.Path.{◌≡◌, refl, sym, ap, ◌∙◌}
 use Prim.Native.Nat.{ℕ, zero, suc, ◌≤◌}
 use native.Mathlib.Omega.{arith}

@@ -1,4 +1,5 @@
 -- A step from counters within their ranges leads to counters within their ranges. Assumes nothing.
+use Rattle.std.specs.declared.option.Option.TheVariants.{None, Some}
 use mathlib.Core.Path.{◌≡◌, refl}
 use Prim.Native.Nat.{ℕ, zero, suc, ◌<◌}
 use native.Mathlib.Omega.{arith}

@@ -1,4 +1,5 @@
 -- Kinds 5 and 7 one evaluation at a time: what is left at a spot, and where its evaluation leads. Definitions only.
+use Rattle.std.specs.declared.option.Option.TheVariants.{None, Some}
 use Rattle.std.specs.Prelude.{ℕ, zero, suc, cond, ltb, drop, length, Float}
 use Rattle.solver.specs.declared.types.Refusal.TheVariants.{NotConverged}
 use Rattle.std.specs.Prelude.{Ok, Err}

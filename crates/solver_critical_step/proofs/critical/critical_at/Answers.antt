@@ -2,9 +2,9 @@
 use Rattle.solver_critical_step.specs.CriticalStep.{critical_at}
 use Rattle.solver_critical_step.proofs.critical.critical_at.Goals as goal
 
-pub returns-in-Some : goal.returns-in-Some
+pub returns-in-Given : goal.returns-in-Given
 unfolding critical_at
-returns-in-Some c = rw c.in-Some.is
+returns-in-Given c = rw c.in-Given.is
 
 pub returns-in-Trial : goal.returns-in-Trial
 unfolding critical_at

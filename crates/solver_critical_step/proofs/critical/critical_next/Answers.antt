@@ -2,9 +2,9 @@
 use Rattle.solver_critical_step.specs.CriticalStep.{critical_next}
 use Rattle.solver_critical_step.proofs.critical.critical_next.Goals as goal
 
-pub returns-in-Some : goal.returns-in-Some
+pub returns-in-Given : goal.returns-in-Given
 unfolding critical_next
-returns-in-Some c = rw (c.in-Some.is, ← c.hkm_next.ensures, ← c.given_on.ensures)
+returns-in-Given c = rw (c.in-Given.is, ← c.hkm_next.ensures, ← c.given_on.ensures)
 
 pub returns-in-Trial : goal.returns-in-Trial
 unfolding critical_next
