@@ -10,7 +10,7 @@ pub enum DensityInitialization {
 }
 
 // The floats that a search hands out, those it does not use +0.
-#[derive(Clone, Copy, PartialEq)]
+#[derive(Clone, Copy, Default, PartialEq)]
 pub struct Values {
     pub first: f64,
     pub second: f64,
