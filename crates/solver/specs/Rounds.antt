@@ -20,9 +20,9 @@ RunsRounds R r m zero s e = e ≡ record { answer = Err r; evaluations = m }
 RunsRounds {S} R r m (suc n) s e = (o : Progress S) × R s o × MatchControlFlow o (λ s'. RunsRounds R r (m + 1) n s' e) (λ a. e ≡ record { answer = a; evaluations = m + 1 })
 
 -- the part s with the rest that R says of what it found; its refusal is the answer
-abbrev pub Follows : (R : Values → Ran → Type 0) → Ran → Ran → Type 0
-Follows R s e = FollowsAnswer s.answer
-  where
-    FollowsAnswer : Answer → Type 0
-    FollowsAnswer (Ok v) = (r : Ran) × R v r × (e ≡ record { answer = r.answer; evaluations = s.evaluations + r.evaluations })
-    FollowsAnswer (Err q) = e ≡ s
+abbrev pub FollowsAnswer : (R : Values → Ran → Type 0) → (s e : Ran) → Answer → Type 0
+FollowsAnswer R s e (Ok v) = (r : Ran) × R v r × (e ≡ record { answer = r.answer; evaluations = s.evaluations + r.evaluations })
+FollowsAnswer R s e (Err q) = e ≡ s
+
+abbrev pub Follows : (R : Values → Ran → Type 0) → (s e : Ran) → Type 0
+Follows R s e = FollowsAnswer R s e s.answer
