@@ -5,7 +5,7 @@ use mathlib.Core.List.{List}
 use lib.ListN.{get_or}
 use lib.Ieee.{Float, nan, lt}
 use Rattle.float.specs.Sign.{abs_of}
-use Rattle.linear.specs.declared.types.Solved.{Solved}
+use Rattle.linear.specs.Linear.{Solved}
 use Rattle.linear.specs.Linear.{entry, eliminated, solve2}
 
 module _ (m : List (List Float)) (r : List Float) (x y : Float) (ex : x ≡ abs_of (entry m 0 0)) (ey : y ≡ abs_of (entry m 1 0)) (s : Solved) where

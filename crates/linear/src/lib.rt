@@ -1,4 +1,4 @@
-// Linear algebra by the documents' stand-ins: the 2 by 2 and 3 by 3 solves and the norms on floats, the smallest eigenvalue with its vector on jets.
+// Linear algebra by the documents' stand-ins: the 2 by 2 and 3 by 3 solves and the norm on floats, the smallest eigenvalue with its vector on jets.
 #![tactic(auto)]
 
 mod eigen;
@@ -6,5 +6,5 @@ mod systems;
 mod types;
 
 pub use crate::eigen::smallest_ev;
-pub use crate::systems::{norm, norm3, solve, solve3};
-pub use crate::types::{Eigenpair, Solved, Solved3};
+pub use crate::systems::{norm, solve, solve3};
+pub use crate::types::{Eigenpair, ZeroPivot};

@@ -1,19 +1,9 @@
-// What a solve answers, and an eigenvalue with its vector.
+// What a solve refuses, and an eigenvalue with its vector.
 use jet::Jet;
 
-// The unknowns of a 2 by 2 system, or document 01's refusal 23.
-#[derive(Clone, Copy)]
-pub enum Solved {
-    Delta(f64, f64),
-    ZeroPivot,
-}
-
-// The unknowns of a 3 by 3 system, or the refusal 23.
-#[derive(Clone, Copy)]
-pub enum Solved3 {
-    Delta(f64, f64, f64),
-    ZeroPivot,
-}
+// A system's pivot is zero: document 01's refusal 23.
+#[derive(Clone, Copy, Debug, PartialEq, Eq)]
+pub struct ZeroPivot;
 
 // An eigenvalue of a 2 by 2 matrix, and the entries of its vector.
 #[derive(Clone, Copy)]

@@ -1,4 +1,5 @@
 pub mod Spans
+pub mod Turns
 pub mod Runs
 pub mod Steps
 pub mod Rule

@@ -3,3 +3,4 @@ pub mod Answer
 pub mod Search
 pub mod Evaluated
 pub mod Stored
+pub mod Rounds

@@ -3,6 +3,7 @@ use Rattle.std.specs.Prelude.{ℕ, Bool, cond, not, ◌&&◌, ◌||◌, eqb, ltb
 use Rattle.solver.specs.declared.types.Values.{Values}
 use Rattle.solver.specs.declared.types.Refusal.{Refusal}
 use Rattle.solver.specs.declared.types.Refusal.TheVariants.{StartNotPositive, NotConverged, IterationFailed, BothPhasesFailed, WrongBranch, Supercritical, NotFinite}
+use Rattle.std.specs.declared.result.Result.{Result}
 use Rattle.solver.specs.Answer.{Answer}
 use Rattle.std.specs.Prelude.{Ok, Err}
 use Rattle.solver.specs.declared.types.Counters.{Counters}
@@ -15,9 +16,9 @@ refusal_by n =
     (cond (eqb n 22) NotConverged
     (cond (eqb n 23) IterationFailed (cond (eqb n 24) BothPhasesFailed (cond (eqb n 25) WrongBranch (cond (eqb n 26) Supercritical NotFinite)))))
 
--- an answer by its status and values
-unfoldable pub answer_by : ℕ → Values → Answer
-answer_by status v = cond (eqb status 0) (Ok v) (Err (refusal_by status))
+-- what was found, or why it was not, by its status
+unfoldable pub answer_by : {T : Type 0} → ℕ → T → Result T Refusal
+answer_by status found = cond (eqb status 0) (Ok found) (Err (refusal_by status))
 
 -- the end of a search as numbers: tag 0, its status and its values
 unfoldable pub ended_numbers : Answer → Numbers

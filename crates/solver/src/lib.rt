@@ -2,9 +2,13 @@
 #![tactic(auto)]
 
 mod answer;
+mod search;
 mod stored;
 mod types;
 
-pub use crate::answer::{refusal_number, status, values};
-pub use crate::stored::{answer_by, ended_numbers, in_ranges, refusal_by};
-pub use crate::types::{Answer, Counters, DensityInitialization, Numbers, Progress, Ran, Refusal, Values};
+pub use crate::answer::{status, values};
+pub use crate::search::{onward, rounds};
+pub use crate::stored::{answer_by, ended_numbers, in_ranges};
+pub use crate::types::{
+    Answer, Counters, DensityInitialization, Numbers, Progress, Ran, Refusal, Spot, Values,
+};

@@ -3,104 +3,78 @@ ghost use Rattle.std.specs.Prelude.{◌≡◌};
 ghost use Rattle.solver.specs.Stored.{refusal_by, answer_by, ended_numbers, status_fits, rounds_of, counters_below, in_ranges};
 
 use crate::answer::{status, values};
-use crate::types::{Answer, Counters, Numbers, Refusal, Values};
+use crate::types::{Answer, Counters, Numbers, Refusal};
 
-pub fn refusal_by(number: u64) -> Refusal
-    ensures { result ≡ refusal_by number }
-{
-    if number == 21 {
-        return Refusal::StartNotPositive;
+impl From<u64> for Refusal {
+    ghost from_gives = { λ number refusal. refusal ≡ refusal_by number };
+
+    #[tactic(auto, unfolding(crate::specs::Stored::refusal_by))]
+    fn from(number: u64) -> Refusal {
+        match number {
+            21 => Refusal::StartNotPositive,
+            22 => Refusal::NotConverged,
+            23 => Refusal::IterationFailed,
+            24 => Refusal::BothPhasesFailed,
+            25 => Refusal::WrongBranch,
+            26 => Refusal::Supercritical,
+            _ => Refusal::NotFinite,
+        }
     }
-    if number == 22 {
-        return Refusal::NotConverged;
-    }
-    if number == 23 {
-        return Refusal::IterationFailed;
-    }
-    if number == 24 {
-        return Refusal::BothPhasesFailed;
-    }
-    if number == 25 {
-        return Refusal::WrongBranch;
-    }
-    if number == 26 {
-        return Refusal::Supercritical;
-    }
-    Refusal::NotFinite
 }
 
-pub fn answer_by(status: u64, found: Values) -> Answer
+// what was found, or why it was not, by its status
+#[tactic(auto, unfolding(crate::specs::Stored::answer_by))]
+pub fn answer_by<T: Copy>(status: u64, found: T) -> Result<T, Refusal>
     ensures { result ≡ answer_by status found }
 {
-    if status == 0 {
-        return Ok(found);
+    match status {
+        0 => Ok(found),
+        _ => Err(Refusal::from(status)),
     }
-    Err(refusal_by(status))
 }
 
 // an end as numbers
+#[tactic(auto, unfolding(crate::specs::Stored::ended_numbers))]
 pub fn ended_numbers(answer: Answer) -> Numbers
     ensures { result ≡ ended_numbers answer }
 {
-    let counters = Counters {
-        stage: 0,
-        tag: 0,
-        status: status(answer),
-        left: 0,
-        way: 0,
-        rounds: 0,
-    };
-    let found = values(answer);
     Numbers {
-        counters,
-        values: found,
+        counters: Counters {
+            status: status(answer),
+            ..Counters::default()
+        },
+        values: values(answer),
     }
 }
 
+#[tactic(auto, unfolding(crate::specs::Stored::status_fits))]
 fn status_fits(status: u64) -> bool
     ensures { result ≡ status_fits status }
 {
-    if status == 0 {
-        return true;
-    }
-    if status < 21 {
-        return false;
-    }
-    status < 28
+    status == 0 || (21..28).contains(&status)
 }
 
+#[tactic(auto, unfolding(crate::specs::Stored::rounds_of))]
 fn rounds_of(kind: u64) -> u64
     ensures { result ≡ rounds_of kind }
 {
-    if kind == 8 {
-        return 200;
+    match kind {
+        8 | 9 => 200,
+        _ => 50,
     }
-    if kind == 9 {
-        return 200;
-    }
-    50
 }
 
 // each counter is within its range, and fewer than this many rounds are left
+#[tactic(auto, unfolding(crate::specs::Stored::counters_below))]
 fn counters_below(rounds: u64, counters: Counters) -> bool
     ensures { result ≡ counters_below rounds counters }
 {
-    if 5 <= counters.stage {
-        return false;
-    }
-    if 7 <= counters.tag {
-        return false;
-    }
-    if !status_fits(counters.status) {
-        return false;
-    }
-    if 50 <= counters.left {
-        return false;
-    }
-    if 4 <= counters.way {
-        return false;
-    }
-    counters.rounds < rounds
+    counters.stage < 5
+        && counters.tag < 7
+        && status_fits(counters.status)
+        && counters.left < 50
+        && counters.way < 4
+        && counters.rounds < rounds
 }
 
 // each counter is within its range for a search of the kind

@@ -2,7 +2,7 @@
 use std::ops::ControlFlow;
 
 // Where a search starts. The Rust's enum of the same name.
-#[derive(Clone, Copy)]
+#[derive(Clone, Copy, PartialEq)]
 pub enum DensityInitialization {
     Vapor,
     Liquid,
@@ -10,7 +10,7 @@ pub enum DensityInitialization {
 }
 
 // The floats that a search hands out, those it does not use +0.
-#[derive(Clone, Copy)]
+#[derive(Clone, Copy, Default, PartialEq)]
 pub struct Values {
     pub first: f64,
     pub second: f64,
@@ -18,7 +18,7 @@ pub struct Values {
 }
 
 // Why a search fails. `number_of` in specs/Answer.antt has document 01's number for each.
-#[derive(Clone, Copy)]
+#[derive(Clone, Copy, Debug, PartialEq, Eq)]
 pub enum Refusal {
     StartNotPositive,
     NotConverged,
@@ -35,15 +35,22 @@ pub type Answer = Result<Values, Refusal>;
 // What a round comes to, or where a search stands: the answer, or what the search goes on from.
 pub type Progress<S> = ControlFlow<Answer, S>;
 
+// A place of a search: the rounds left after this one, and what they go on from.
+#[derive(Clone, Copy, PartialEq)]
+pub struct Spot<S> {
+    pub rounds: u64,
+    pub at: S,
+}
+
 // An answer, with the evaluations that led to it.
-#[derive(Clone, Copy)]
+#[derive(Clone, Copy, PartialEq)]
 pub struct Ran {
     pub answer: Answer,
     pub evaluations: u64,
 }
 
 // The counters of a place of a search, as a board stores them; those that a place does not use are 0.
-#[derive(Clone, Copy)]
+#[derive(Clone, Copy, Debug, Default, PartialEq, Eq)]
 pub struct Counters {
     pub stage: u64,
     pub tag: u64,
@@ -54,7 +61,7 @@ pub struct Counters {
 }
 
 // A place of a search as numbers.
-#[derive(Clone, Copy)]
+#[derive(Clone, Copy, PartialEq)]
 pub struct Numbers {
     pub counters: Counters,
     pub values: Values,

@@ -7,8 +7,7 @@ use lib.Ieee.{Float, lt}
 use Rattle.float.specs.Sign.{abs_of}
 use Rattle.evaluations.specs.declared.types.Criticality.{Criticality}
 use Rattle.evaluations.specs.declared.types.Stability.{Stability}
-use Rattle.linear.specs.declared.types.Solved.{Solved}
-use Rattle.linear.specs.declared.types.Solved.TheVariants.{Delta, ZeroPivot}
+use Rattle.linear.specs.Linear.{Solved}
 use Rattle.solver.specs.Decimals.{d1e_8}
 use Rattle.solver.specs.declared.types.DensityInitialization.{DensityInitialization}
 use Rattle.solver.specs.declared.types.DensityInitialization.TheVariants.{Vapor, InitialDensity}
@@ -21,23 +20,24 @@ use Rattle.solver.proofs.Rule.{exactly_27, answer_bind, then_told, then_never, r
 use Rattle.std.specs.declared.option.Option.{Option}
 use Rattle.std.specs.declared.option.Option.TheVariants.{None, Some}
 use Rattle.solver_critical.specs.declared.types.Point.{Point}
-use Rattle.solver_critical.specs.CriticalPoint.{critical_answer, solved, converged, tested6, after_solve, after_conditions, or_else, trial_temperatures, start_density, hkm_from, critical_point_hkm, trials, from_temperature, critical_point}
+use Rattle.solver_critical.specs.CriticalPoint.{critical_answer, solved, converged, tested_each, entries, after_solve, after_conditions, or_else, trial_temperatures, start_density, hkm_from, critical_point_hkm, trials, from_temperature, critical_point}
 use Rattle.solver_critical.specs.Spinodal.{spinodal_answer, both_answer, liquid_start, stability_step, after_stability, spinodal_from, calculate_spinodal, after_liquid, after_vapor, after_critical, spinodal}
 use Rattle.solver_critical.specs.NotFinite.{critical_not_finite, spinodals_not_finite}
 
 -- ---- a trial, and the search of a spinodal
-pub ruled_tested6 : {t : Search} (y : Criticality) → Ruled t → Ruled (tested6 y t)
-ruled_tested6 y r = ruled_tested y.l (ruled_tested y.c2 (ruled_tested y.dl_d0 (ruled_tested y.dl_d1 (ruled_tested y.dc2_d0 (ruled_tested y.dc2_d1 r)))))
+pub ruled_each : {t : Search} (xs : List Float) → Ruled t → Ruled (tested_each xs t)
+ruled_each [] r = r
+ruled_each (x ∷ xs) r = ruled_tested x (ruled_each xs r)
 
 ruled_solve : (maxdensity : Float) (p : Point) (y : Criticality) (s : Solved) (again : Point → Search) → ((p : Point) → Ruled (again p)) → Ruled (after_solve maxdensity p y s again)
 unfolding after_solve critical_answer is27 status_of number_of
-ruled_solve maxdensity p y (Delta δt δρ) again h = ruled_tested _ (ruled_tested _ (ruled_cond (converged y) (ruled_done refl) (h _)))
-ruled_solve maxdensity p y ZeroPivot again h = ruled_done refl
+ruled_solve maxdensity p y (Ok δ) again h = ruled_tested _ (ruled_tested _ (ruled_cond (converged y) (ruled_done refl) (h _)))
+ruled_solve maxdensity p y (Err e) again h = ruled_done refl
 
 ruled_hkm : (maxdensity : Float) (n : ℕ) (p : Point) → Ruled (hkm_from maxdensity n p)
 unfolding hkm_from after_conditions is27 status_of number_of
 ruled_hkm maxdensity zero p = ruled_done refl
-ruled_hkm maxdensity (suc n) p = ruled_asks (λ (y : Criticality). ruled_tested6 y (ruled_solve maxdensity p y (solved y) (hkm_from maxdensity n) (ruled_hkm maxdensity n)))
+ruled_hkm maxdensity (suc n) p = ruled_asks (λ (y : Criticality). ruled_each (entries y) (ruled_solve maxdensity p y (solved y) (hkm_from maxdensity n) (ruled_hkm maxdensity n)))
 
 ruled_spinodal : (maxdensity t : Float) (n : ℕ) (ρ : Float) → Ruled (spinodal_from maxdensity t n ρ)
 unfolding spinodal_from after_stability spinodal_answer is27 status_of number_of

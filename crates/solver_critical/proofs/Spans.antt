@@ -8,8 +8,7 @@ use lib.Ieee.{Float, lt}
 use Rattle.float.specs.Sign.{abs_of}
 use Rattle.evaluations.specs.declared.types.Criticality.{Criticality}
 use Rattle.evaluations.specs.declared.types.Stability.{Stability}
-use Rattle.linear.specs.declared.types.Solved.{Solved}
-use Rattle.linear.specs.declared.types.Solved.TheVariants.{Delta, ZeroPivot}
+use Rattle.linear.specs.Linear.{Solved}
 use Rattle.solver.specs.Decimals.{d1e_8}
 use Rattle.solver.specs.declared.types.DensityInitialization.{DensityInitialization}
 use Rattle.solver.specs.declared.types.Values.{Values}
@@ -20,14 +19,13 @@ use Rattle.solver.proofs.Spans.{asked, within_more, within_bind, within_then, wi
 use Rattle.std.specs.declared.option.Option.{Option}
 use Rattle.std.specs.declared.option.Option.TheVariants.{None, Some}
 use Rattle.solver_critical.specs.declared.types.Point.{Point}
-use Rattle.solver_critical.specs.CriticalPoint.{tested6, converged, solved, after_solve, after_conditions, or_else, trial_temperatures, start_density, hkm_from, critical_point_hkm, trials, from_temperature, critical_point}
+use Rattle.solver_critical.specs.CriticalPoint.{tested_each, entries, converged, solved, after_solve, after_conditions, or_else, trial_temperatures, start_density, hkm_from, critical_point_hkm, trials, from_temperature, critical_point}
 use Rattle.solver_critical.specs.Spinodal.{after_stability, spinodal_from, calculate_spinodal, after_liquid, after_vapor, after_critical, spinodal}
 
 -- ---- kinds 5 and 7
-pub within_tested6 : {n : ℕ} {s : Search} (y : Criticality) → Within n s → Within n (tested6 y s)
-within_tested6 y w =
-    within_tested y.l
-    (within_tested y.c2 (within_tested y.dl_d0 (within_tested y.dl_d1 (within_tested y.dc2_d0 (within_tested y.dc2_d1 w)))))
+pub within_each : {n : ℕ} {s : Search} (xs : List Float) → Within n s → Within n (tested_each xs s)
+within_each [] w = w
+within_each (x ∷ xs) w = within_tested x (within_each xs w)
 
 pub within_else : {n : ℕ} {s : Search} (a : Answer) → Within n s → Within n (or_else s a)
 unfolding or_else
@@ -37,13 +35,13 @@ within_else (Err r) w = w
 module _ (maxdensity : Float) where
   within_solve : {n : ℕ} (p : Point) (y : Criticality) (s : Solved) (again : Point → Search) → ((p : Point) → Within n (again p)) → Within n (after_solve maxdensity p y s again)
   unfolding after_solve
-  within_solve p y (Delta δt δρ) again h = within_tested _ (within_tested _ (within_cond (converged y) Within.ended (h _)))
-  within_solve p y ZeroPivot again h = Within.ended
+  within_solve p y (Ok δ) again h = within_tested _ (within_tested _ (within_cond (converged y) Within.ended (h _)))
+  within_solve p y (Err e) again h = Within.ended
 
   pub within_hkm : (n : ℕ) (p : Point) → Within n (hkm_from maxdensity n p)
   unfolding hkm_from after_conditions
   within_hkm zero p = Within.ended
-  within_hkm (suc n) p = asked n (suc n) (omega arith) (λ y. within_tested6 y (within_solve p y (solved y) (hkm_from maxdensity n) (within_hkm n)))
+  within_hkm (suc n) p = asked n (suc n) (omega arith) (λ y. within_each (entries y) (within_solve p y (solved y) (hkm_from maxdensity n) (within_hkm n)))
 
   pub hkm_50 : (t ρ : Float) → Within 50 (critical_point_hkm maxdensity t ρ)
   unfolding critical_point_hkm

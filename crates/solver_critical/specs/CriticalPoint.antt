@@ -1,12 +1,11 @@
 -- `critical_point_hkm` and `critical_point` of critical_point.rs, for one component or two. Definitions only.
-use Rattle.std.specs.Prelude.{ℕ, zero, suc, Bool, cond, List, [], ◌∷◌, get_or, Float}
+use Rattle.std.specs.Prelude.{ℕ, zero, suc, Bool, cond, List, [], ◌∷◌, map, get_or, unwrap_or, Float}
+use Rattle.std.specs.Float.{nan}
 use Rattle.std.specs.Float.Ieee.{lt}
 use Rattle.float.specs.Ops.{◌⊖◌, ◌⊗◌, ◌⊘◌, f0}
 use Rattle.float.specs.Sign.{abs_of, max_of}
 use Rattle.evaluations.specs.declared.types.Criticality.{Criticality}
-use Rattle.linear.specs.declared.types.Solved.{Solved}
-use Rattle.linear.specs.declared.types.Solved.TheVariants.{Delta, ZeroPivot}
-use Rattle.linear.specs.Linear.{solve2, norm_of}
+use Rattle.linear.specs.Linear.{Solved, solve2, norm_of}
 use Rattle.solver.specs.Decimals.{d0·25, d0·03, d0·3, d1e_4, d1e_8, d300, d500, d700}
 use Rattle.solver.specs.declared.types.Refusal.TheVariants.{NotConverged, IterationFailed}
 use Rattle.solver.specs.Answer.{Answer}
@@ -26,17 +25,21 @@ critical_answer p = Ok (record { first = p.t; second = p.rho; third = f0 })
 unfoldable pub floored : (maxdensity ρ : Float) → Float
 floored maxdensity ρ = max_of ρ (d1e_4 ⊗ maxdensity)
 
--- `if size > most { delta *= most / size }`: the factor is worked out first and scales both entries
-unfoldable pub reduced : (most size : Float) → Point → Point
-reduced most size δ = cond (lt most size) (let factor = most ⊘ size in record { t = δ.t ⊗ factor; rho = δ.rho ⊗ factor }) δ
+-- an entry of a step
+abbrev pub part : List Float → ℕ → Float
+part δ i = get_or δ i nan
+
+-- `if size > most { delta *= most / size }`: the factor is worked out first and scales every entry
+unfoldable pub limited : (most size : Float) → List Float → List Float
+limited most size δ = cond (lt most size) (let factor = most ⊘ size in map (λ x. x ⊗ factor) δ) δ
 
 -- "reduce step if necessary": by its temperature, then by the density that it has then
-unfoldable pub reduced_step : (maxdensity t : Float) → Point → Point
-reduced_step maxdensity t δ = let δ' = reduced (d0·25 ⊗ t) (abs_of δ.t) δ in reduced (d0·03 ⊗ maxdensity) (abs_of δ'.rho) δ'
+unfoldable pub reduced_step : (maxdensity t : Float) → List Float → List Float
+reduced_step maxdensity t δ = let δ' = limited (d0·25 ⊗ t) (abs_of (part δ 0)) δ in limited (d0·03 ⊗ maxdensity) (abs_of (part δ' 1)) δ'
 
 -- "reduce step if necessary", "apply step": the step δ from p
-unfoldable pub newton_step : (maxdensity : Float) → (p δ : Point) → Point
-newton_step maxdensity p δ = let δ' = reduced_step maxdensity p.t δ in record { t = p.t ⊖ δ'.t; rho = floored maxdensity (p.rho ⊖ δ'.rho) }
+unfoldable pub newton_step : (maxdensity : Float) → Point → List Float → Point
+newton_step maxdensity p δ = let δ' = reduced_step maxdensity p.t δ in record { t = p.t ⊖ part δ' 0; rho = floored maxdensity (p.rho ⊖ part δ' 1) }
 
 -- the residuals' derivatives by temperature and density
 unfoldable pub jacobian : Criticality → List (List Float)
@@ -47,23 +50,27 @@ solved y = solve2 (jacobian y) (y.l ∷ y.c2 ∷ [])
 
 -- by the residuals from before the step
 unfoldable pub converged : Criticality → Bool
-converged y = lt (norm_of y.l y.c2) d1e_8
+converged y = lt (norm_of (y.l ∷ y.c2 ∷ [])) d1e_8
 
 -- ---- the search
 
--- what `criticality_conditions` yields is tested for 27
-abbrev pub tested6 : Criticality → Search → Search
-tested6 y s = tested y.l (tested y.c2 (tested y.dl_d0 (tested y.dl_d1 (tested y.dc2_d0 (tested y.dc2_d1 s)))))
+-- each of these numbers is tested for 27
+abbrev pub tested_each : List Float → Search → Search
+tested_each [] s = s
+tested_each (x ∷ xs) s = tested x (tested_each xs s)
+
+-- what `criticality_conditions` yields: the residuals, then their derivatives row by row
+abbrev pub entries : Criticality → List Float
+entries y = y.l ∷ y.c2 ∷ y.dl_d0 ∷ y.dl_d1 ∷ y.dc2_d0 ∷ y.dc2_d1 ∷ []
 
 -- what the step from p leads to: temperature and density are tested for 27, and then handed out or gone on from
 unfoldable pub after_solve : (maxdensity : Float) → Point → Criticality → Solved → (Point → Search) → Search
-after_solve maxdensity p y (Delta δt δρ) again =
-    (let p' = newton_step maxdensity p (record { t = δt; rho = δρ }) in tested p'.t (tested p'.rho (cond (converged y) (done (critical_answer p')) (again p'))))
-after_solve maxdensity p y ZeroPivot again = refuse IterationFailed
+after_solve maxdensity p y (Ok δ) again = (let p' = newton_step maxdensity p δ in tested p'.t (tested p'.rho (cond (converged y) (done (critical_answer p')) (again p'))))
+after_solve maxdensity p y (Err e) again = refuse IterationFailed
 
 -- what `criticality_conditions` at p leads to
 unfoldable pub after_conditions : (maxdensity : Float) → Point → Criticality → (Point → Search) → Search
-after_conditions maxdensity p y again = tested6 y (after_solve maxdensity p y (solved y) again)
+after_conditions maxdensity p y again = tested_each (entries y) (after_solve maxdensity p y (solved y) again)
 
 -- a trial that failed leads to another search
 unfoldable pub or_else : Search → Answer → Search
@@ -78,8 +85,7 @@ unfoldable pub trial_temperature : ℕ → Float
 trial_temperature trial = get_or trial_temperatures trial f0
 
 unfoldable pub start_density : (maxdensity : Float) → Option Float → Float
-start_density maxdensity None = d0·3 ⊗ maxdensity
-start_density maxdensity (Some ρ) = ρ
+start_density maxdensity density = unwrap_or density (d0·3 ⊗ maxdensity)
 
 module _ (maxdensity : Float) where
   -- with n rounds left, at p

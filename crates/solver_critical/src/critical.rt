@@ -4,13 +4,13 @@ ghost use Rattle.float.specs.Sign.{finite_of};
 ghost use Rattle.eos.specs.Cubic.{max_density};
 ghost use Rattle.solver.specs.Search.{run};
 ghost use Rattle.solver.specs.Evaluated.{evaluated};
-ghost use Rattle.solver_critical.specs.CriticalPoint.{critical_answer, floored, reduced, reduced_step, newton_step, solved as solved_of, converged, trial_temperatures, trial_temperature, start_density, critical_point_hkm, trials, critical_point};
-ghost use Rattle.solver_critical.specs.Rounds.{both_finite, finite6, stepped_round, critical_round};
+ghost use Rattle.solver_critical.specs.CriticalPoint.{critical_answer, floored, limited, reduced_step, newton_step, entries, solved as solved_of, converged, trial_temperatures, trial_temperature, start_density, critical_point_hkm, trials, critical_point};
+ghost use Rattle.solver_critical.specs.Rounds.{all_finite as all_finite_of, stepped_round, critical_round};
 
 use crate::types::Point;
 use eos::Blend;
 use evaluations::Criticality;
-use linear::Solved;
+use linear::ZeroPivot;
 use solver::{Answer, Progress, Ran, Refusal, Values};
 use std::ops::ControlFlow;
 
@@ -35,68 +35,60 @@ pub fn floor(maxdensity: f64, rho: f64) -> f64
     float::max(rho, 1e-4 * maxdensity)
 }
 
-// a step whose share `size` is above `most`, scaled down as a whole
-fn reduce(most: f64, size: f64, delta: Point) -> Point
-    ensures { result ≡ reduced most size delta }
+// a step whose entry of this size is above `most`, scaled down as a whole
+pub fn limit<const N: usize>(most: f64, size: f64, delta: [f64; N]) -> [f64; N]
+    ensures { result ≡ limited most size delta.entry }
 {
     if size > most {
         let factor = most / size;
-        return Point {
-            t: delta.t * factor,
-            rho: delta.rho * factor,
-        };
+        let mut scaled = delta;
+        for x in scaled.iter_mut() {
+            *x *= factor;
+        }
+        return scaled;
     }
     delta
 }
 
 // reduce step if necessary
-fn reduce_step(maxdensity: f64, t: f64, delta: Point) -> Point
+fn reduce_step(maxdensity: f64, t: f64, delta: [f64; 2]) -> [f64; 2]
     ensures { result ≡ reduced_step maxdensity t delta }
 {
-    let first = reduce(0.25 * t, float::abs(delta.t), delta);
-    reduce(0.03 * maxdensity, float::abs(first.rho), first)
+    let first = limit(0.25 * t, float::abs(delta[0]), delta);
+    limit(0.03 * maxdensity, float::abs(first[1]), first)
 }
 
 // the Newton step from p, with its caps and the density's floor
-fn newton_step(maxdensity: f64, p: Point, delta: Point) -> Point
+fn newton_step(maxdensity: f64, p: Point, delta: [f64; 2]) -> Point
     ensures { result ≡ newton_step maxdensity p delta }
 {
-    let step = reduce_step(maxdensity, p.t, delta);
+    let [t, rho] = reduce_step(maxdensity, p.t, delta);
     Point {
-        t: p.t - step.t,
-        rho: floor(maxdensity, p.rho - step.rho),
+        t: p.t - t,
+        rho: floor(maxdensity, p.rho - rho),
     }
 }
 
-pub fn both_finite(x: f64, y: f64) -> bool
-    ensures { result ≡ both_finite x y }
+pub fn all_finite(xs: &[f64]) -> bool
+    ensures { result ≡ all_finite_of xs.now }
 {
-    if !float::is_finite(x) {
-        return false;
-    }
-    float::is_finite(y)
+    xs.iter().all(|x| float::is_finite(*x))
 }
 
-// what criticality_conditions yields is finite
-pub fn all_finite(y: Criticality) -> bool
-    ensures { result ≡ finite6 y }
+// what criticality_conditions yields: the residuals, then their derivatives row by row
+pub fn entries(y: Criticality) -> [f64; 6]
+    ensures { result ≡ entries y }
 {
-    if !both_finite(y.l, y.c2) {
-        return false;
-    }
-    if !both_finite(y.dl_d0, y.dl_d1) {
-        return false;
-    }
-    both_finite(y.dc2_d0, y.dc2_d1)
+    [y.l, y.c2, y.dl_d0, y.dl_d1, y.dc2_d0, y.dc2_d1]
 }
 
 pub fn has_converged(y: Criticality) -> bool
     ensures { result ≡ converged y }
 {
-    linear::norm(y.l, y.c2) < 1e-8
+    linear::norm(&[y.l, y.c2]) < 1e-8
 }
 
-pub fn solved(y: Criticality) -> Solved
+pub fn solved(y: Criticality) -> Result<[f64; 2], ZeroPivot>
     ensures { result ≡ solved_of y }
 {
     let jacobian = [[y.dl_d0, y.dl_d1], [y.dc2_d0, y.dc2_d1]];
@@ -107,7 +99,7 @@ pub fn solved(y: Criticality) -> Solved
 fn stepped_round(ended: bool, p: Point) -> Progress<Point>
     ensures { result ≡ stepped_round ended p }
 {
-    if !both_finite(p.t, p.rho) {
+    if !all_finite(&[p.t, p.rho]) {
         return ControlFlow::Break(Err(Refusal::NotFinite));
     }
     if ended {
@@ -120,66 +112,50 @@ fn stepped_round(ended: bool, p: Point) -> Progress<Point>
 pub fn critical_round(maxdensity: f64, p: Point, y: Criticality) -> Progress<Point>
     ensures { result ≡ critical_round maxdensity p y }
 {
-    if !all_finite(y) {
+    if !all_finite(&entries(y)) {
         return ControlFlow::Break(Err(Refusal::NotFinite));
     }
-    let delta = solved(y);
-    match delta {
-        Solved::Delta(t, rho) => {
-            stepped_round(
-                has_converged(y),
-                newton_step(maxdensity, p, Point { t, rho }),
-            )
-        }
-        Solved::ZeroPivot => ControlFlow::Break(Err(Refusal::IterationFailed)),
-    }
+    let Ok(delta) = solved(y) else {
+        return ControlFlow::Break(Err(Refusal::IterationFailed));
+    };
+    stepped_round(has_converged(y), newton_step(maxdensity, p, delta))
 }
 
 pub fn start_density(maxdensity: f64, density: Option<f64>) -> f64
     ensures { result ≡ start_density maxdensity density }
 {
-    match density {
-        None => 0.3 * maxdensity,
-        Some(rho) => rho,
-    }
+    density.unwrap_or(0.3 * maxdensity)
 }
 
 // the temperature of a trial, +0 past the last
 pub fn trial_temperature(trial: u64) -> f64
     ensures { result ≡ trial_temperature trial }
 {
-    if trial < 3 {
-        return TRIAL_TEMPERATURES[trial as usize];
-    }
-    0.0
+    TRIAL_TEMPERATURES
+        .get(trial as usize)
+        .copied()
+        .unwrap_or(0.0)
 }
 
 fn critical_point_hkm(blend: Blend, maxdensity: f64, t: f64, rho: f64) -> Ran
     ensures { result ≡ run finite_of (evaluated blend) 0 (critical_point_hkm maxdensity t rho) }
 {
     let mut p = Point { t, rho };
-    let mut left: u64 = 50;
-    let mut evaluations: u64 = 0;
-    while 0 < left {
-        left -= 1;
-        evaluations += 1;
+    for made in 0..50u64 {
         let y = evaluations::criticality_conditions(blend, p.t, p.rho);
-        let outcome = critical_round(maxdensity, p, y);
-        match outcome {
+        match critical_round(maxdensity, p, y) {
             ControlFlow::Break(answer) => {
                 return Ran {
                     answer,
-                    evaluations,
+                    evaluations: made + 1,
                 };
             }
-            ControlFlow::Continue(next) => {
-                p = next;
-            }
+            ControlFlow::Continue(next) => p = next,
         }
     }
     Ran {
         answer: Err(Refusal::NotConverged),
-        evaluations,
+        evaluations: 50,
     }
 }
 
@@ -187,39 +163,19 @@ fn critical_point_hkm(blend: Blend, maxdensity: f64, t: f64, rho: f64) -> Ran
 fn by_trials(blend: Blend, maxdensity: f64, rho: f64) -> Ran
     ensures { result ≡ run finite_of (evaluated blend) 0 (trials maxdensity rho trial_temperatures) }
 {
-    let mut answer = Err(Refusal::NotConverged);
     let mut evaluations: u64 = 0;
-    let mut trial: u64 = 0;
-    'trials: while trial < 3 {
-        let mut p = Point {
-            t: trial_temperature(trial),
-            rho,
-        };
-        trial += 1;
-        let mut left: u64 = 50;
-        while 0 < left {
-            left -= 1;
-            evaluations += 1;
-            let y = evaluations::criticality_conditions(blend, p.t, p.rho);
-            let outcome = critical_round(maxdensity, p, y);
-            match outcome {
-                ControlFlow::Break(end) => match end {
-                    Ok(found) => {
-                        answer = Ok(found);
-                        break 'trials;
-                    }
-                    Err(_) => {
-                        continue 'trials;
-                    }
-                },
-                ControlFlow::Continue(next) => {
-                    p = next;
-                }
-            }
+    for t in &TRIAL_TEMPERATURES {
+        let trial = critical_point_hkm(blend, maxdensity, *t, rho);
+        evaluations += trial.evaluations;
+        if let Ok(found) = trial.answer {
+            return Ran {
+                answer: Ok(found),
+                evaluations,
+            };
         }
     }
     Ran {
-        answer,
+        answer: Err(Refusal::NotConverged),
         evaluations,
     }
 }

@@ -6,7 +6,7 @@ mod spinodals;
 mod types;
 
 pub use crate::critical::{
-    all_finite, both_finite, critical_point, critical_round, floor, has_converged, solved,
+    all_finite, critical_point, critical_round, entries, floor, has_converged, limit, solved,
     start_density, trial_temperature,
 };
 pub use crate::spinodals::{both_answer, liquid_start, spinodal, spinodal_start, stability_round};

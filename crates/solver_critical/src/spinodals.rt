@@ -7,7 +7,7 @@ ghost use Rattle.solver.specs.Evaluated.{evaluated};
 ghost use Rattle.solver_critical.specs.Spinodal.{spinodal_answer, both_answer, spinodal_start, liquid_start, reduced_delta, stability_step, calculate_spinodal, after_vapor, after_critical, spinodal as spinodal_tree};
 ghost use Rattle.solver_critical.specs.Rounds.{stability_round};
 
-use crate::critical::{both_finite, critical_search, floor};
+use crate::critical::{all_finite, critical_search, floor};
 use eos::Blend;
 use evaluations::Stability;
 use solver::{Answer, DensityInitialization, Progress, Ran, Refusal, Values};
@@ -77,15 +77,14 @@ fn stability_step(maxdensity: f64, rho: f64, y: Stability) -> f64
 pub fn stability_round(maxdensity: f64, rho: f64, y: Stability) -> Progress<f64>
     ensures { result ≡ stability_round maxdensity rho y }
 {
-    let f = y.f;
-    if !both_finite(f, y.df) {
+    if !all_finite(&[y.f, y.df]) {
         return ControlFlow::Break(Err(Refusal::NotFinite));
     }
     let next = stability_step(maxdensity, rho, y);
     if !float::is_finite(next) {
         return ControlFlow::Break(Err(Refusal::NotFinite));
     }
-    if float::abs(f) < 1e-8 {
+    if float::abs(y.f) < 1e-8 {
         return ControlFlow::Break(spinodal_answer(next));
     }
     ControlFlow::Continue(next)
@@ -100,28 +99,21 @@ fn calculate_spinodal(
     ensures { result ≡ run finite_of (evaluated blend) 0 (calculate_spinodal maxdensity temperature initial) }
 {
     let mut rho = spinodal_start(maxdensity, initial);
-    let mut left: u64 = 50;
-    let mut evaluations: u64 = 0;
-    while 0 < left {
-        left -= 1;
-        evaluations += 1;
+    for made in 0..50u64 {
         let y = evaluations::stability_condition(blend, temperature, rho);
-        let outcome = stability_round(maxdensity, rho, y);
-        match outcome {
+        match stability_round(maxdensity, rho, y) {
             ControlFlow::Break(answer) => {
                 return Ran {
                     answer,
-                    evaluations,
+                    evaluations: made + 1,
                 };
             }
-            ControlFlow::Continue(next) => {
-                rho = next;
-            }
+            ControlFlow::Continue(next) => rho = next,
         }
     }
     Ran {
         answer: Err(Refusal::Supercritical),
-        evaluations,
+        evaluations: 50,
     }
 }
 

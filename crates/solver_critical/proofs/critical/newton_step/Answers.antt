@@ -4,4 +4,4 @@ use Rattle.solver_critical.proofs.critical.newton_step.Goals as goal
 
 pub returns : goal.returns
 unfolding newton_step
-returns c = rw (← c.reduce_step-step.ensures, ← c.floor.ensures)
+returns c = rw (← c.reduce_step.ensures, ← c.floor.ensures)

@@ -3,14 +3,14 @@ use borrow.Author.Tests.{not-false, not-true}
 use Rattle.solver_critical.specs.Rounds.{stepped_round}
 use Rattle.solver_critical.proofs.critical.stepped_round.Goals as goal
 
-pub returns-then-not-both_finite : goal.returns-then-not-both_finite
+pub returns-then-not-all_finite : goal.returns-then-not-all_finite
 unfolding stepped_round
-returns-then-not-both_finite c = rw (← c.both_finite.ensures, not-true c.both_finite.result c.if-not-both_finite.true-raw)
+returns-then-not-all_finite c = rw (← c.all_finite.ensures, not-true c.all_finite.result c.if-not-all_finite.true-raw)
 
 pub returns-then-ended : goal.returns-then-ended
 unfolding stepped_round
-returns-then-ended c = rw (← c.both_finite.ensures, not-false c.both_finite.result c.if-not-both_finite.false-raw, c.if-ended.true, ← c.critical_answer.ensures)
+returns-then-ended c = rw (← c.all_finite.ensures, not-false c.all_finite.result c.if-not-all_finite.false-raw, c.if-ended.true, ← c.critical_answer.ensures)
 
 pub returns : goal.returns
 unfolding stepped_round
-returns c = rw (← c.both_finite.ensures, not-false c.both_finite.result c.if-not-both_finite.false-raw, c.if-ended.false)
+returns c = rw (← c.all_finite.ensures, not-false c.all_finite.result c.if-not-all_finite.false-raw, c.if-ended.false)

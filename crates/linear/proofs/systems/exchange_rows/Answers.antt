@@ -1,8 +1,0 @@
--- `linear::systems::exchange_rows`.
-use mathlib.Core.Path.{refl}
-use Rattle.linear.specs.Linear.{exchanged}
-use Rattle.linear.proofs.systems.exchange_rows.Goals as goal
-
-pub returns : goal.returns
-unfolding exchanged
-returns c = refl
