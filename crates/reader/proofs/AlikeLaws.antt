@@ -9,7 +9,9 @@ use Rattle.block.specs.Pairs.{pairs_fit}
 use Rattle.block.specs.Numbers.{numbers_of}
 use Rattle.block.specs.SameBytes.{SameRead, SameBytes}
 use Rattle.block.proofs.SameBytes.{pairs_same, numbers_same}
-use Rattle.reader.specs.declared.types.Task.TheVariants.{Refused}
+use Rattle.reader.specs.declared.types.Refusal.{Refusal}
+use Rattle.reader.specs.declared.types.Refusal.TheVariants as Refusal
+use Rattle.std.specs.Prelude.{Err}
 use Rattle.reader.specs.declared.types.Job.{Job}
 use Rattle.reader.specs.View.{check, ready_job, last_checks, checked, view}
 use Rattle.reader.specs.Alike.{Stage, both_refused, both_pass, SameConditions, SameData, SameNumbers, Alike}
@@ -44,10 +46,10 @@ bytes_numbers kind n s t a = record {
 
 -- ---- 2 implies 3
 
-stage_same : {A : Type 0} {fits : A → Bool} {a b : A} {Same Next : Type 0} (number : ℕ) (x y : Job) → Stage fits a b Same Next → (Same → Next → x ≡ y)
-    → check (fits a) number x ≡ check (fits b) number y
-stage_same number x y (both_refused p q) h = rw (p, q)
-stage_same number x y (both_pass p q same next) h = rw (p, q) (h same next)
+stage_same : {A : Type 0} {fits : A → Bool} {a b : A} {Same Next : Type 0} (refusal : Refusal) (x y : Job) → Stage fits a b Same Next → (Same → Next → x ≡ y)
+    → check (fits a) refusal x ≡ check (fits b) refusal y
+stage_same refusal x y (both_refused p q) h = rw (p, q)
+stage_same refusal x y (both_pass p q same next) h = rw (p, q) (h same next)
 
 all_same : (d e : Numbers) → d.coefficients ≡ e.coefficients → d.interactions ≡ e.interactions → d.fractions ≡ e.fractions
     → SameConditions d.conditions e.conditions → d.conditions.choice ≡ e.conditions.choice → d ≡ e
@@ -62,18 +64,18 @@ all_same d e c i x s q =
 pub data_alike : (kind n : ℕ) (d e : Numbers) → SameData kind n d e → checked kind n d ≡ checked kind n e
 unfolding SameData checked last_checks
 data_alike kind n d e a =
-    stage_same 12 _ _ a
-    (λ ec a₁. stage_same 13 _ _ a₁
-    (λ ei a₂. stage_same 14 _ _ a₂
-    (λ _ a₃. stage_same 17 _ _ a₃
-    (λ ex a₄. stage_same 15 _ _ a₄
-    (λ es a₅. stage_same 16 _ _ a₅
+    stage_same Refusal.Components _ _ a
+    (λ ec a₁. stage_same Refusal.Interactions _ _ a₁
+    (λ ei a₂. stage_same Refusal.Fractions _ _ a₂
+    (λ _ a₃. stage_same Refusal.FractionSum _ _ a₃
+    (λ ex a₄. stage_same Refusal.Conditions _ _ a₄
+    (λ es a₅. stage_same Refusal.Choice _ _ a₅
     (λ eq _. ap (ready_job kind n) (all_same d e ec ei ex es eq)))))))
 
 pub numbers_alike : (kind n : ℕ) (s t : List ℕ) → SameNumbers kind n s t → Alike kind n s t
 unfolding view
 numbers_alike kind n s t a =
-    let checks = stage_same 11 _ _ a.in_data (λ _ d. data_alike kind n (numbers_of kind n s) (numbers_of kind n t) d) in
+    let checks = stage_same Refusal.Pairs _ _ a.in_data (λ _ d. data_alike kind n (numbers_of kind n s) (numbers_of kind n t) d) in
     rw (checks, a.in_length)
 
 pub bytes_alike : (kind n : ℕ) (s t : List ℕ) → SameBytes kind n s t → Alike kind n s t
@@ -81,9 +83,9 @@ bytes_alike kind n s t a = numbers_alike kind n s t (bytes_numbers kind n s t a)
 
 -- ---- blocks that are alike though their bytes are not
 
--- Blocks refused by the same number, whatever they hold: by 17, for one, with other fractions and other components.
-pub refused_alike : (kind n : ℕ) (s t : List ℕ) (number : ℕ) → Refused number ≡ (view kind n s).task → Refused number ≡ (view kind n t).task → Alike kind n s t
-refused_alike kind n s t number e f = sym (view_refused kind n s number e) ∙ view_refused kind n t number f
+-- Blocks refused by the same check, whatever they hold: by 17, for one, with other fractions and other components.
+pub refused_alike : (kind n : ℕ) (s t : List ℕ) (refusal : Refusal) → Err refusal ≡ (view kind n s).task → Err refusal ≡ (view kind n t).task → Alike kind n s t
+refused_alike kind n s t refusal e f = sym (view_refused kind n s refusal e) ∙ view_refused kind n t refusal f
 
 -- Blocks whose pairs do not fit, whatever else they hold: "11 pairs" comes first.
 pub unfit_pairs : (kind n : ℕ) (s t : List ℕ) → length s ≡ 640 → length t ≡ 640 → pairs_fit n s ≡ false → pairs_fit n t ≡ false → SameNumbers kind n s t

@@ -14,7 +14,10 @@ use Rattle.eos.specs.Cubic.{blend_by, element_of, alone, pure_of, max_density}
 use Rattle.block.specs.declared.types.Conditions.{Conditions}
 use Rattle.block.specs.declared.types.Numbers.{Numbers}
 use Rattle.reader.specs.declared.types.Task.{Task}
-use Rattle.reader.specs.declared.types.Task.TheVariants.{Refused}
+use Rattle.reader.specs.declared.types.Refusal.{Refusal}
+use Rattle.reader.specs.declared.types.Refusal.TheVariants as Refusal
+use Rattle.std.specs.Prelude.{Ok, Err}
+use Rattle.std.specs.declared.result.Result.{Result}
 use Rattle.block.specs.Lists.{tabulate}
 use Rattle.block.specs.Pairs.{offset_of, coefficients, interactions, fractions, conditions}
 use Rattle.block.specs.Numbers.{floats_at, reads_fractions, fraction_count, conditions_of, numbers_of}
@@ -71,50 +74,50 @@ unread kind read t = rw t
 -- ---- a refusal, and what is left where there is none
 
 -- a refused job has no blend to be read
-pub refused_reads : (number : ℕ) (task : Task) (rows : Blend) → task ≡ Refused number → Reads (refused number) task rows
+pub refused_reads : (refusal : Refusal) (task : Result Task Refusal) (rows : Blend) → task ≡ Err refusal → Reads (refused refusal) task rows
 unfolding refused not_refused
-refused_reads number task rows e = (e, λ s. let z : ◌≡◌ {A = Bool} false true = ap not_refused (sym e) ∙ s in absurd (false≢true z))
+refused_reads refusal task rows e = (e, λ s. let z : ◌≡◌ {A = Bool} false true = ap not_refused (sym e) ∙ s in absurd (false≢true z))
 
-module _ (kind n : ℕ) (d : Numbers) (task : Task) (rows : Blend) where
-  pub refused_12 : components_fit n d.coefficients ≡ false → task ≡ Refused 12 → Reads (checked kind n d) task rows
+module _ (kind n : ℕ) (d : Numbers) (task : Result Task Refusal) (rows : Blend) where
+  pub refused_12 : components_fit n d.coefficients ≡ false → task ≡ Err Refusal.Components → Reads (checked kind n d) task rows
   unfolding checked
-  refused_12 p e = rw p (refused_reads 12 task rows e)
+  refused_12 p e = rw p (refused_reads Refusal.Components task rows e)
 
-  pub refused_13 : components_fit n d.coefficients ≡ true → interactions_fit n d.interactions ≡ false → task ≡ Refused 13 → Reads (checked kind n d) task rows
+  pub refused_13 : components_fit n d.coefficients ≡ true → interactions_fit n d.interactions ≡ false → task ≡ Err Refusal.Interactions → Reads (checked kind n d) task rows
   unfolding checked
-  refused_13 p q e = rw (p, q) (refused_reads 13 task rows e)
+  refused_13 p q e = rw (p, q) (refused_reads Refusal.Interactions task rows e)
 
-  pub refused_14 : components_fit n d.coefficients ≡ true → interactions_fit n d.interactions ≡ true → fractions_fit n d.fractions ≡ false → task ≡ Refused 14 → Reads (checked kind n d) task rows
+  pub refused_14 : components_fit n d.coefficients ≡ true → interactions_fit n d.interactions ≡ true → fractions_fit n d.fractions ≡ false → task ≡ Err Refusal.Fractions → Reads (checked kind n d) task rows
   unfolding checked
-  refused_14 p q r e = rw (p, q, r) (refused_reads 14 task rows e)
+  refused_14 p q r e = rw (p, q, r) (refused_reads Refusal.Fractions task rows e)
 
-  pub refused_17 : components_fit n d.coefficients ≡ true → interactions_fit n d.interactions ≡ true → fractions_fit n d.fractions ≡ true → sum_fits kind n d.fractions ≡ false → task ≡ Refused 17
+  pub refused_17 : components_fit n d.coefficients ≡ true → interactions_fit n d.interactions ≡ true → fractions_fit n d.fractions ≡ true → sum_fits kind n d.fractions ≡ false → task ≡ Err Refusal.FractionSum
       → Reads (checked kind n d) task rows
   unfolding checked
-  refused_17 p q r s e = rw (p, q, r, s) (refused_reads 17 task rows e)
+  refused_17 p q r s e = rw (p, q, r, s) (refused_reads Refusal.FractionSum task rows e)
 
   pub passed_17 : (c : Conditions) (whole : Blend) → components_fit n d.coefficients ≡ true → interactions_fit n d.interactions ≡ true → fractions_fit n d.fractions ≡ true → sum_fits kind n d.fractions ≡ true → c ≡ d.conditions
       → searched kind c.choice whole ≡ searched kind c.choice (blend_of n d) → Reads (last_checks kind n c whole) task rows → Reads (checked kind n d) task rows
   unfolding checked run_fits last_checks blend_of
   passed_17 c whole p q r s ec eb e = rw (p, q, r, s, ← ec) (rw eb at e)
 
-module _ (kind n : ℕ) (c : Conditions) (whole : Blend) (task : Task) (rows : Blend) where
-  pub refused_15 : conditions_fit kind c ≡ false → task ≡ Refused 15 → Reads (last_checks kind n c whole) task rows
+module _ (kind n : ℕ) (c : Conditions) (whole : Blend) (task : Result Task Refusal) (rows : Blend) where
+  pub refused_15 : conditions_fit kind c ≡ false → task ≡ Err Refusal.Conditions → Reads (last_checks kind n c whole) task rows
   unfolding last_checks
-  refused_15 p e = rw p (refused_reads 15 task rows e)
+  refused_15 p e = rw p (refused_reads Refusal.Conditions task rows e)
 
-  pub refused_16 : conditions_fit kind c ≡ true → choice_fits kind n c.choice ≡ false → task ≡ Refused 16 → Reads (last_checks kind n c whole) task rows
+  pub refused_16 : conditions_fit kind c ≡ true → choice_fits kind n c.choice ≡ false → task ≡ Err Refusal.Choice → Reads (last_checks kind n c whole) task rows
   unfolding last_checks run_fits
-  refused_16 p q e = rw (p, q) (refused_reads 16 task rows e)
+  refused_16 p q e = rw (p, q) (refused_reads Refusal.Choice task rows e)
 
   pub passed_16 : (made : Task) (blend : Blend) → conditions_fit kind c ≡ true → choice_fits kind n c.choice ≡ true → made ≡ task_of kind c → blend ≡ rows → rows ≡ searched kind c.choice whole
-      → task ≡ (check (positive (max_density blend)) 16 (record { task = made; blend = blend })).task → Reads (last_checks kind n c whole) task rows
+      → task ≡ (check (positive (max_density blend)) Refusal.Choice (record { task = Ok made; blend = blend })).task → Reads (last_checks kind n c whole) task rows
   unfolding last_checks run_fits
   passed_16 made blend p q em eb er e = rw (p, q, ← er, ← em) (go (positive (max_density rows)) (rw eb at e))
     where
-      go : (t : Bool) → task ≡ (check t 16 (record { task = made; blend = rows })).task → Reads (check t 16 (record { task = made; blend = rows })) task rows
+      go : (t : Bool) → task ≡ (check t Refusal.Choice (record { task = Ok made; blend = rows })).task → Reads (check t Refusal.Choice (record { task = Ok made; blend = rows })) task rows
       go true e = (e, λ s. refl)
-      go false e = refused_reads 16 task rows (unfold refused in e)
+      go false e = refused_reads Refusal.Choice task rows (unfold refused in e)
 
 -- the rows where the whole blend is searched, and where one component is
 module _ (kind n : ℕ) (tc a b kappa k x : List Float) where

@@ -13,52 +13,53 @@ use Rattle.eos.specs.declared.types.Blend.{Blend}
 use Rattle.block.specs.declared.types.Conditions.{Conditions}
 use Rattle.block.specs.declared.types.Numbers.{Numbers}
 use Rattle.reader.specs.declared.types.Task.{Task}
-use Rattle.reader.specs.declared.types.Task.TheVariants.{Refused, DensityIteration, DensityIterationStable, PressureSpinodal, PressureSpinodalBranch, CriticalPoint, Spinodal, CriticalPointBinaryT, CriticalPointBinaryP}
+use Rattle.reader.specs.declared.types.Task.TheVariants.{DensityIteration, DensityIterationStable, PressureSpinodal, PressureSpinodalBranch, CriticalPoint, Spinodal, CriticalPointBinaryT, CriticalPointBinaryP}
+use Rattle.reader.specs.declared.types.Refusal.{Refusal}
+use Rattle.reader.specs.declared.types.Refusal.TheVariants as Refusal
 use Rattle.reader.specs.declared.types.Job.{Job}
+use Rattle.std.specs.Prelude.{Ok, Err}
+use Rattle.std.specs.declared.result.Result.{Result}
 use Rattle.block.specs.Pairs.{pairs_fit}
 use Rattle.block.specs.Numbers.{numbers_of}
 use Rattle.block.specs.Blend.{blend_of}
 use Rattle.block.specs.Checks.{components_fit, interactions_fit, fractions_fit, sum_fits, conditions_fit}
+use Rattle.reader.specs.Refusals.{number_of}
 use Rattle.reader.specs.View.{initial_of, branch_of, given_of, task_of, refused, check, of_data, ready_job, run_fits, last_checks, checked, requested, view}
 use Rattle.reader.specs.Reading.{not_refused, refusal_of}
 
-abbrev pub OfData : ℕ → Type 0
-OfData number = of_data number ≡ true
-
--- the search's refusals are from 21 on
-pub of_data_low : (number : ℕ) → OfData number → ltb number 21 ≡ true
-unfolding of_data
-of_data_low number e = let h = leb-true number 17 (right_true (leb 11 number) (leb number 17) e) in lt-ltb number 21 (omega arith)
+-- what the data are refused by
+abbrev pub OfData : Refusal → Type 0
+OfData refusal = of_data (number_of refusal) ≡ true
 
 module _ (P : Job → Type 0) where
-  check_keeps : (ok : Bool) (number : ℕ) (next : Job) → P (refused number) → P next → P (check ok number next)
-  check_keeps true number next r h = h
-  check_keeps false number next r h = r
+  check_keeps : (ok : Bool) (refusal : Refusal) (next : Job) → P (refused refusal) → P next → P (check ok refusal next)
+  check_keeps true refusal next r h = h
+  check_keeps false refusal next r h = r
 
   -- 11 and on
-  data_keeps : (kind n : ℕ) (s : List ℕ) → ((number : ℕ) → OfData number → P (refused number)) → P (ready_job kind n (numbers_of kind n s))
-      → P (check (pairs_fit n s) 11 (checked kind n (numbers_of kind n s)))
-  unfolding checked last_checks of_data
+  data_keeps : (kind n : ℕ) (s : List ℕ) → ((refusal : Refusal) → OfData refusal → P (refused refusal)) → P (ready_job kind n (numbers_of kind n s))
+      → P (check (pairs_fit n s) Refusal.Pairs (checked kind n (numbers_of kind n s)))
+  unfolding checked last_checks of_data number_of
   data_keeps kind n s r h =
       let d = numbers_of kind n s in
-      check_keeps (pairs_fit n s) 11 _ (r 11 refl)
-      (check_keeps (components_fit n d.coefficients) 12 _ (r 12 refl)
-      (check_keeps (interactions_fit n d.interactions) 13 _ (r 13 refl)
-      (check_keeps (fractions_fit n d.fractions) 14 _ (r 14 refl)
-      (check_keeps (sum_fits kind n d.fractions) 17 _ (r 17 refl)
-      (check_keeps (conditions_fit kind d.conditions) 15 _ (r 15 refl)
-      (check_keeps (run_fits kind n d.conditions (blend_of n d)) 16 _ (r 16 refl) h))))))
+      check_keeps (pairs_fit n s) _ _ (r Refusal.Pairs refl)
+      (check_keeps (components_fit n d.coefficients) _ _ (r Refusal.Components refl)
+      (check_keeps (interactions_fit n d.interactions) _ _ (r Refusal.Interactions refl)
+      (check_keeps (fractions_fit n d.fractions) _ _ (r Refusal.Fractions refl)
+      (check_keeps (sum_fits kind n d.fractions) _ _ (r Refusal.FractionSum refl)
+      (check_keeps (conditions_fit kind d.conditions) _ _ (r Refusal.Conditions refl)
+      (check_keeps (run_fits kind n d.conditions (blend_of n d)) _ _ (r Refusal.Choice refl) h))))))
 
-  -- any request; no refusal's number is a search's
-  pub view_keeps : (kind n : ℕ) (s : List ℕ) → ((number : ℕ) → ltb number 21 ≡ true → P (refused number)) → P (ready_job kind n (numbers_of kind n s)) → P (view kind n s)
+  -- any request
+  pub view_keeps : (kind n : ℕ) (s : List ℕ) → ((refusal : Refusal) → P (refused refusal)) → P (ready_job kind n (numbers_of kind n s)) → P (view kind n s)
   unfolding view
   view_keeps kind n s r h =
-      check_keeps (kind_fits kind) 2 _ (r 2 refl)
-      (check_keeps (count_fits kind n) 3 _ (r 3 refl)
-      (check_keeps (eqb (length s) 640) 8 _ (r 8 refl) (data_keeps kind n s (λ number e. r number (of_data_low number e)) h)))
+      check_keeps (kind_fits kind) _ _ (r Refusal.Kind)
+      (check_keeps (count_fits kind n) _ _ (r Refusal.Count)
+      (check_keeps (eqb (length s) 640) _ _ (r Refusal.BlockLength) (data_keeps kind n s (λ refusal _. r refusal) h)))
 
   -- a request that submit accepts is refused by its data alone
-  pub request_keeps : (kind n : ℕ) (s : List ℕ) → kind_fits kind ≡ true → count_fits kind n ≡ true → length s ≡ 640 → ((number : ℕ) → OfData number → P (refused number))
+  pub request_keeps : (kind n : ℕ) (s : List ℕ) → kind_fits kind ≡ true → count_fits kind n ≡ true → length s ≡ 640 → ((refusal : Refusal) → OfData refusal → P (refused refusal))
       → P (ready_job kind n (numbers_of kind n s)) → P (view kind n s)
   unfolding view
   request_keeps kind n s k c l r h = rw (k, c, eq-eqb (length s) 640 l) (data_keeps kind n s r h)
@@ -104,41 +105,43 @@ task_keeps P kind c p₁ p₂ p₃ p₄ p₅ p₆ p₈ p₉ = task_by_kind (λ _
 
 -- ---- a job that is refused, and one that is not
 
-task_not_refused : (kind : ℕ) (c : Conditions) → not_refused (task_of kind c) ≡ true
-unfolding not_refused
-task_not_refused kind c = task_keeps (λ (task : Task). not_refused task ≡ true) kind c refl refl refl refl refl refl refl refl
-
 -- a refusal says all of the job
-pub view_refused : (kind n : ℕ) (s : List ℕ) (number : ℕ) → Refused number ≡ (view kind n s).task → refused number ≡ view kind n s
-unfolding refused not_refused
-view_refused kind n s number =
-    view_keeps (λ (job : Job). Refused number ≡ job.task → refused number ≡ job) kind n s (λ k _ e. let z : number ≡ k = cc in ap refused z)
-    (λ e. absurd (false≢true (ap not_refused e ∙ task_not_refused kind (numbers_of kind n s).conditions)))
+pub view_refused : (kind n : ℕ) (s : List ℕ) (refusal : Refusal) → Err refusal ≡ (view kind n s).task → refused refusal ≡ view kind n s
+unfolding refused
+view_refused kind n s refusal =
+    view_keeps (λ (job : Job). Err refusal ≡ job.task → refused refusal ≡ job) kind n s (λ k e. let z : refusal ≡ k = cc in ap refused z) (λ e. absurd cc)
 
 -- the task that is left where a match has taken the refusal away
-pub not_refused_left : (task : Task) → ((number : ℕ) → task ≡ Refused number → ⊥) → not_refused task ≡ true
+pub not_refused_left : (task : Result Task Refusal) → ((refusal : Refusal) → task ≡ Err refusal → ⊥) → not_refused task ≡ true
 unfolding not_refused
-not_refused_left (Refused number) h = absurd (h number refl)
-not_refused_left (DensityIteration t p initial) h = refl
-not_refused_left (DensityIterationStable t p) h = refl
-not_refused_left (PressureSpinodal t start) h = refl
-not_refused_left (PressureSpinodalBranch t branch) h = refl
-not_refused_left (CriticalPoint t density) h = refl
-not_refused_left (Spinodal t) h = refl
-not_refused_left (CriticalPointBinaryT t density) h = refl
-not_refused_left (CriticalPointBinaryP p t density) h = refl
+not_refused_left (Ok task) h = refl
+not_refused_left (Err refusal) h = absurd (h refusal refl)
 
 -- a job from its task and the rows of its blend
-pub view_not_refused : (kind n : ℕ) (s : List ℕ) (task : Task) (rows blend : Blend) → task ≡ (view kind n s).task → rows ≡ (view kind n s).blend → blend ≡ rows
+pub view_not_refused : (kind n : ℕ) (s : List ℕ) (task : Result Task Refusal) (rows blend : Blend) → task ≡ (view kind n s).task → rows ≡ (view kind n s).blend → blend ≡ rows
     → ◌≡◌ {A = Job} (record { task = task; blend = blend }) (view kind n s)
 view_not_refused kind n s task rows blend et er eb = rw (eb, et, er)
 
 -- ---- a request that no check refuses
 
-check_passed : (ok : Bool) (number : ℕ) (next : Job) → refusal_of (check ok (suc number) next).task ≡ 0 → (ok ≡ true) × (refusal_of next.task ≡ 0)
+-- no refusal's number says that there is none
+number_not_0 : (refusal : Refusal) → number_of refusal ≡ 0 → ⊥
+unfolding number_of
+number_not_0 Refusal.Kind e = omega arith
+number_not_0 Refusal.Count e = omega arith
+number_not_0 Refusal.BlockLength e = omega arith
+number_not_0 Refusal.Pairs e = omega arith
+number_not_0 Refusal.Components e = omega arith
+number_not_0 Refusal.Interactions e = omega arith
+number_not_0 Refusal.Fractions e = omega arith
+number_not_0 Refusal.FractionSum e = omega arith
+number_not_0 Refusal.Conditions e = omega arith
+number_not_0 Refusal.Choice e = omega arith
+
+check_passed : (ok : Bool) (refusal : Refusal) (next : Job) → refusal_of (check ok refusal next).task ≡ 0 → (ok ≡ true) × (refusal_of next.task ≡ 0)
 unfolding refusal_of refused
-check_passed true number next e = (refl, e)
-check_passed false number next e = absurd (omega arith)
+check_passed true refusal next e = (refl, e)
+check_passed false refusal next e = absurd (number_not_0 refusal e)
 
 -- each check that its job rests on, and the job
 pub record Passed (kind n size : ℕ) (pairs : Bool) (d : Numbers) : Type 0 where
@@ -151,34 +154,22 @@ pub record Passed (kind n size : ℕ) (pairs : Bool) (d : Numbers) : Type 0 wher
 data_passed : (kind n : ℕ) (d : Numbers) → refusal_of (checked kind n d).task ≡ 0 → checked kind n d ≡ ready_job kind n d
 unfolding checked last_checks
 data_passed kind n d e =
-    let p₁ = check_passed (components_fit n d.coefficients) 11 _ e in
-    let p₂ = check_passed (interactions_fit n d.interactions) 12 _ p₁.1 in
-    let p₃ = check_passed (fractions_fit n d.fractions) 13 _ p₂.1 in
-    let p₄ = check_passed (sum_fits kind n d.fractions) 16 _ p₃.1 in
-    let p₅ = check_passed (conditions_fit kind d.conditions) 14 _ p₄.1 in
-    let p₆ = check_passed (run_fits kind n d.conditions (blend_of n d)) 15 _ p₅.1 in
+    let p₁ = check_passed (components_fit n d.coefficients) _ _ e in
+    let p₂ = check_passed (interactions_fit n d.interactions) _ _ p₁.1 in
+    let p₃ = check_passed (fractions_fit n d.fractions) _ _ p₂.1 in
+    let p₄ = check_passed (sum_fits kind n d.fractions) _ _ p₃.1 in
+    let p₅ = check_passed (conditions_fit kind d.conditions) _ _ p₄.1 in
+    let p₆ = check_passed (run_fits kind n d.conditions (blend_of n d)) _ _ p₅.1 in
     rw (p₁.0, p₂.0, p₃.0, p₄.0, p₅.0, p₆.0)
 
 pub requested_passed : (kind n size : ℕ) (pairs : Bool) (d : Numbers) → refusal_of (requested kind n size pairs d).task ≡ 0 → Passed kind n size pairs d
 requested_passed kind n size pairs d e =
-    let p₁ = check_passed (kind_fits kind) 1 _ e in
-    let p₂ = check_passed (count_fits kind n) 2 _ p₁.1 in
-    let p₃ = check_passed (eqb size 640) 7 _ p₂.1 in
-    let p₄ = check_passed pairs 10 _ p₃.1 in
+    let p₁ = check_passed (kind_fits kind) _ _ e in
+    let p₂ = check_passed (count_fits kind n) _ _ p₁.1 in
+    let p₃ = check_passed (eqb size 640) _ _ p₂.1 in
+    let p₄ = check_passed pairs _ _ p₃.1 in
     record { fit_kind = p₁.0; fit_count = p₂.0; size_fits = p₃.0; pairs_fit_lem = p₄.0; job = data_passed kind n d p₄.1 }
 
--- no number where there is no refusal
-pub no_number : (task : Task) → not_refused task ≡ true → refusal_of task ≡ 0
-unfolding not_refused refusal_of
-no_number (Refused number) h = absurd (false≢true h)
-no_number (DensityIteration t p initial) h = refl
-no_number (DensityIterationStable t p) h = refl
-no_number (PressureSpinodal t start) h = refl
-no_number (PressureSpinodalBranch t branch) h = refl
-no_number (CriticalPoint t density) h = refl
-no_number (Spinodal t) h = refl
-no_number (CriticalPointBinaryT t density) h = refl
-no_number (CriticalPointBinaryP p t density) h = refl
-
 pub ready_no_number : (kind n : ℕ) (d : Numbers) → refusal_of (ready_job kind n d).task ≡ 0
-ready_no_number kind n d = no_number _ (task_not_refused kind d.conditions)
+unfolding refusal_of
+ready_no_number kind n d = refl

@@ -1,5 +1,5 @@
 -- What a job reads of a request, or the refusal, with its checks in their order. Definitions only.
-use Rattle.std.specs.Prelude.{ℕ, Bool, cond, ◌&&◌, List, length, leb, eqb, Float}
+use Rattle.std.specs.Prelude.{ℕ, Bool, cond, ◌&&◌, List, length, leb, eqb, Float, Ok, Err}
 use Rattle.schedule.specs.Spans.{kind_fits, count_fits}
 use Rattle.eos.specs.declared.types.Blend.{Blend}
 use Rattle.eos.specs.Cubic.{max_density, pure_of}
@@ -12,7 +12,9 @@ use Rattle.std.specs.declared.option.Option.TheVariants.{None, Some}
 use Rattle.block.specs.declared.types.Conditions.{Conditions}
 use Rattle.block.specs.declared.types.Numbers.{Numbers}
 use Rattle.reader.specs.declared.types.Task.{Task}
-use Rattle.reader.specs.declared.types.Task.TheVariants.{Refused, DensityIteration, DensityIterationStable, PressureSpinodal, PressureSpinodalBranch, CriticalPoint, Spinodal, CriticalPointBinaryT, CriticalPointBinaryP}
+use Rattle.reader.specs.declared.types.Task.TheVariants.{DensityIteration, DensityIterationStable, PressureSpinodal, PressureSpinodalBranch, CriticalPoint, Spinodal, CriticalPointBinaryT, CriticalPointBinaryP}
+use Rattle.reader.specs.declared.types.Refusal.{Refusal}
+use Rattle.reader.specs.declared.types.Refusal.TheVariants as Refusal
 use Rattle.reader.specs.declared.types.Job.{Job}
 use Rattle.block.specs.Pairs.{pairs_fit}
 use Rattle.block.specs.Numbers.{reads_fractions, numbers_of}
@@ -48,12 +50,12 @@ task_of kind c =
 unfoldable pub searched : (kind choice : ℕ) → Blend → Blend
 searched kind choice blend = cond (reads_fractions kind) blend (pure_of blend choice)
 
-unfoldable pub refused : ℕ → Job
-refused number = record { task = Refused number; blend = empty_blend }
+unfoldable pub refused : Refusal → Job
+refused refusal = record { task = Err refusal; blend = empty_blend }
 
--- a check that is refused by this number
-abbrev pub check : Bool → ℕ → Job → Job
-check ok number next = cond ok next (refused number)
+-- a check and what it is refused by
+abbrev pub check : Bool → Refusal → Job → Job
+check ok refusal next = cond ok next (refused refusal)
 
 -- the numbers of the data's refusals
 unfoldable pub of_data : ℕ → Bool
@@ -65,7 +67,7 @@ run_blend kind n d = searched kind d.conditions.choice (blend_of n d)
 
 -- the job that passes every check
 abbrev pub ready_job : (kind n : ℕ) → Numbers → Job
-ready_job kind n d = record { task = task_of kind d.conditions; blend = run_blend kind n d }
+ready_job kind n d = record { task = Ok (task_of kind d.conditions); blend = run_blend kind n d }
 
 -- "16 choice, or the run's maximum density not finite and positive"
 unfoldable pub run_fits : (kind n : ℕ) → Conditions → Blend → Bool
@@ -73,23 +75,23 @@ run_fits kind n c whole = choice_fits kind n c.choice && positive (max_density (
 
 -- 15 and 16, of the conditions and of what is searched of the whole blend under them
 unfoldable pub last_checks : (kind n : ℕ) → Conditions → Blend → Job
-last_checks kind n c whole = check (conditions_fit kind c) 15 (check (run_fits kind n c whole) 16 (record { task = task_of kind c; blend = searched kind c.choice whole }))
+last_checks kind n c whole = check (conditions_fit kind c) Refusal.Conditions (check (run_fits kind n c whole) Refusal.Choice (record { task = Ok (task_of kind c); blend = searched kind c.choice whole }))
 
 -- "The supplier's data, sealed, in this order", after 11; 17 is "tested directly after 14"
 unfoldable pub checked : (kind n : ℕ) → Numbers → Job
 checked kind n d =
-    check (components_fit n d.coefficients) 12
-    (check (interactions_fit n d.interactions) 13
-    (check (fractions_fit n d.fractions) 14
-    (check (sum_fits kind n d.fractions) 17 (last_checks kind n d.conditions (blend_of n d)))))
+    check (components_fit n d.coefficients) Refusal.Components
+    (check (interactions_fit n d.interactions) Refusal.Interactions
+    (check (fractions_fit n d.fractions) Refusal.Fractions
+    (check (sum_fits kind n d.fractions) Refusal.FractionSum (last_checks kind n d.conditions (blend_of n d)))))
 
 -- 2, 3 and 8 in submit's order; then the data, of which 11 comes before the numbers. The reader of a block and the writer of one go by it
 abbrev pub requested : (kind n size : ℕ) (pairs : Bool) → Numbers → Job
 requested kind n size pairs d =
-    check (kind_fits kind) 2
-    (check (count_fits kind n) 3
-    (check (eqb size 640) 8
-    (check pairs 11
+    check (kind_fits kind) Refusal.Kind
+    (check (count_fits kind n) Refusal.Count
+    (check (eqb size 640) Refusal.BlockLength
+    (check pairs Refusal.Pairs
     (checked kind n d))))
 
 -- the job of a block

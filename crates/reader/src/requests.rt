@@ -7,8 +7,10 @@ ghost use Rattle.block.specs.Numbers.{reads_fractions, numbers_of};
 ghost use Rattle.block.specs.Checks.{positive as positive_of};
 ghost use Rattle.reader.specs.View.{initial_of, branch_of, given_of, task_of, refused as refused_of, check, of_data, last_checks, checked as checked_of, view as view_of};
 ghost use Rattle.reader.specs.Reading.{Reads, searched_count};
+ghost use Rattle.reader.specs.declared.types.Refusal.TheVariants.{Choice};
+ghost use Rattle.std.specs.Prelude.{Ok};
 
-use crate::types::{Job, Task};
+use crate::types::{Job, Refusal, Task};
 use block::{
     Conditions, choice_fits, conditions, conditions_fit, empty, is_plus_zero, keep_component,
     offset, pairs_fit, positive, read_components, read_fractions, read_searched_interactions,
@@ -18,81 +20,66 @@ use eos::Blend;
 use solver::DensityInitialization;
 use solver_density::Branch;
 
+#[tactic(auto, unfolding(crate::specs::View::initial_of))]
 fn initial(choice: u64, start: f64) -> DensityInitialization
     ensures { result ≡ initial_of choice start }
 {
-    if choice == 0 {
-        return DensityInitialization::Vapor;
+    match choice {
+        0 => DensityInitialization::Vapor,
+        1 => DensityInitialization::Liquid,
+        _ => DensityInitialization::InitialDensity(start),
     }
-    if choice == 1 {
-        return DensityInitialization::Liquid;
-    }
-    DensityInitialization::InitialDensity(start)
 }
 
+#[tactic(auto, unfolding(crate::specs::View::branch_of))]
 fn branch(choice: u64) -> Branch
     ensures { result ≡ branch_of choice }
 {
-    if choice == 0 {
-        return Branch::Vapor;
+    match choice {
+        0 => Branch::Vapor,
+        _ => Branch::Liquid,
     }
-    Branch::Liquid
 }
 
+#[tactic(auto, unfolding(crate::specs::View::given_of))]
 fn given(x: f64) -> Option<f64>
     ensures { result ≡ given_of x }
 {
-    if is_plus_zero(x) {
-        return None;
-    }
-    Some(x)
+    if is_plus_zero(x) { None } else { Some(x) }
 }
 
+#[tactic(auto, unfolding(crate::specs::View::task_of))]
 fn task(kind: u64, c: Conditions) -> Task
     ensures { result ≡ task_of kind c }
 {
-    if kind == 1 {
-        return Task::DensityIteration(c.temperature, c.pressure, initial(c.choice, c.start));
+    match kind {
+        1 => Task::DensityIteration(c.temperature, c.pressure, initial(c.choice, c.start)),
+        2 => Task::DensityIterationStable(c.temperature, c.pressure),
+        3 => Task::PressureSpinodal(c.temperature, c.start),
+        4 => Task::PressureSpinodalBranch(c.temperature, branch(c.choice)),
+        6 => Task::Spinodal(c.temperature),
+        8 => Task::CriticalPointBinaryT(c.temperature, given(c.start)),
+        9 => Task::CriticalPointBinaryP(c.pressure, given(c.temperature), given(c.start)),
+        _ => Task::CriticalPoint(given(c.temperature), given(c.start)),
     }
-    if kind == 2 {
-        return Task::DensityIterationStable(c.temperature, c.pressure);
-    }
-    if kind == 3 {
-        return Task::PressureSpinodal(c.temperature, c.start);
-    }
-    if kind == 4 {
-        return Task::PressureSpinodalBranch(c.temperature, branch(c.choice));
-    }
-    if kind == 6 {
-        return Task::Spinodal(c.temperature);
-    }
-    if kind == 8 {
-        return Task::CriticalPointBinaryT(c.temperature, given(c.start));
-    }
-    if kind == 9 {
-        return Task::CriticalPointBinaryP(c.pressure, given(c.temperature), given(c.start));
-    }
-    Task::CriticalPoint(given(c.temperature), given(c.start))
 }
 
 // Whether a number is one of the data's refusals.
+#[tactic(auto, unfolding(crate::specs::View::of_data))]
 pub fn of_data(number: u64) -> bool
     ensures { result ≡ of_data number }
 {
-    if number < 11 {
-        return false;
-    }
-    number <= 17
+    (11..=17).contains(&number)
 }
 
 // A task on a blend whose maximum density fits.
-fn ready(task: Task, blend: Blend) -> Task
-    ensures { result ≡ (check (positive_of (max_density blend)) 16 (record { task = task; blend = blend })).task }
+fn ready(task: Task, blend: Blend) -> Result<Task, Refusal>
+    ensures { result ≡ (check (positive_of (max_density blend)) Choice (record { task = Ok task; blend = blend })).task }
 {
     if !positive(eos::compute_max_density(blend)) {
-        return Task::Refused(16);
+        return Err(Refusal::Choice);
     }
-    task
+    Ok(task)
 }
 
 // The checks after those of the blend's own numbers. Kinds 5 and 6 search the chosen component alone.
@@ -106,16 +93,16 @@ fn under_conditions(
     kappa: &mut [f64; 8],
     k_ij: &[f64; 64],
     x: &mut [f64; 8],
-) -> Task
+) -> Result<Task, Refusal>
     requires { (n ≤ 8) × (reads_fractions kind ≡ false → k_ij.now ≡ replicate 64 f0) }
     ensures { Reads (last_checks kind n c (blend_by n tc.old a.old b.old kappa.old k_ij.now x.old)) result (blend_by (searched_count kind n) tc.new a.new b.new kappa.new k_ij.now x.new) }
 {
     if !conditions_fit(kind, c) {
-        return Task::Refused(15);
+        return Err(Refusal::Conditions);
     }
     let choice = c.choice;
     if !choice_fits(kind, n, choice) {
-        return Task::Refused(16);
+        return Err(Refusal::Choice);
     }
     if reads_fractions(kind) {
         return ready(
@@ -137,22 +124,22 @@ fn checked(
     kappa: &mut [f64; 8],
     k_ij: &mut [f64; 64],
     x: &mut [f64; 8],
-) -> Task
+) -> Result<Task, Refusal>
     requires { (1 ≤ n) × (n ≤ 8) × (length block.now ≡ 640) × (pairs_fit n block.now ≡ true) × (tc.old ≡ replicate 8 f0) × (a.old ≡ replicate 8 f0) × (b.old ≡ replicate 8 f0) × (kappa.old ≡ replicate 8 f0) × (k_ij.old ≡ replicate 64 f0) × (x.old ≡ replicate 8 f0) }
     ensures { Reads (checked_of kind n (numbers_of kind n block.now)) result (blend_by (searched_count kind n) tc.new a.new b.new kappa.new k_ij.new x.new) }
 {
     let size = n as usize;
     if !read_components(size, block, offset(block, 0), tc, a, b, kappa) {
-        return Task::Refused(12);
+        return Err(Refusal::Components);
     }
     if !read_searched_interactions(kind, size, block, offset(block, 1), k_ij) {
-        return Task::Refused(13);
+        return Err(Refusal::Interactions);
     }
     if !read_fractions(kind, size, block, offset(block, 2), x) {
-        return Task::Refused(14);
+        return Err(Refusal::Fractions);
     }
     if !sum_fits(kind, size, x) {
-        return Task::Refused(17);
+        return Err(Refusal::FractionSum);
     }
     let c = conditions(kind, block, offset(block, 3));
     under_conditions(kind, n, c, tc, a, b, kappa, k_ij, x)
@@ -169,41 +156,40 @@ pub fn read(
     kappa: &mut [f64; 8],
     k_ij: &mut [f64; 64],
     x: &mut [f64; 8],
-) -> Task
+) -> Result<Task, Refusal>
     requires { (tc.old ≡ replicate 8 f0) × (a.old ≡ replicate 8 f0) × (b.old ≡ replicate 8 f0) × (kappa.old ≡ replicate 8 f0) × (k_ij.old ≡ replicate 64 f0) × (x.old ≡ replicate 8 f0) }
     ensures { Reads (view_of kind n block.now) result (blend_by (searched_count kind n) tc.new a.new b.new kappa.new k_ij.new x.new) }
 {
     if !schedule::kind_fits(kind) {
-        return Task::Refused(2);
+        return Err(Refusal::Kind);
     }
     if !schedule::count_fits(kind, n) {
-        return Task::Refused(3);
+        return Err(Refusal::Count);
     }
     if block.len() != 640 {
-        return Task::Refused(8);
+        return Err(Refusal::BlockLength);
     }
     if !pairs_fit(n, block) {
-        return Task::Refused(11);
+        return Err(Refusal::Pairs);
     }
     checked(kind, n, block, tc, a, b, kappa, k_ij, x)
 }
 
 // How many components the job searches.
+#[tactic(auto, unfolding(crate::specs::Reading::searched_count))]
 pub fn searched_count(kind: u64, n: u64) -> usize
     ensures { result ≡ searched_count kind n }
 {
-    if reads_fractions(kind) {
-        return n as usize;
-    }
-    1
+    if reads_fractions(kind) { n as usize } else { 1 }
 }
 
-fn refused(number: u64) -> Job
-    ensures { result ≡ refused_of number }
+#[tactic(auto, unfolding(crate::specs::View::refused))]
+fn refused(refusal: Refusal) -> Job
+    ensures { result ≡ refused_of refusal }
 {
     let blend = empty();
     Job {
-        task: Task::Refused(number),
+        task: Err(refusal),
         blend,
     }
 }
@@ -221,9 +207,9 @@ pub fn view(kind: u64, n: u64, block: &[u8]) -> Job
     let task = read(
         kind, n, block, &mut tc, &mut a, &mut b, &mut kappa, &mut k_ij, &mut x,
     );
-    let Task::Refused(number) = task else {
-        let blend = eos::blend(searched_count(kind, n), &tc, &a, &b, &kappa, &k_ij, &x);
-        return Job { task, blend };
-    };
-    refused(number)
+    if let Err(refusal) = task {
+        return refused(refusal);
+    }
+    let blend = eos::blend(searched_count(kind, n), &tc, &a, &b, &kappa, &k_ij, &x);
+    Job { task, blend }
 }

@@ -1,10 +1,11 @@
 -- The record's bytes written number by number, and a whole answer; data that are alike have the same sealed bytes. Assumes nothing.
 use mathlib.Core.Path.{◌≡◌, refl, sym, ap, ◌∙◌}
 use Prim.Native.Nat.{ℕ, zero, suc, ◌≤◌}
-use mathlib.Core.Bool.{true}
+use mathlib.Core.Bool.{Bool, true, false, cond}
 use mathlib.Core.List.{List}
 use lib.ListN.{length, length-append}
-use borrow.Author.Tests.{le-leb, eq-eqb}
+use lib.Dec.{leb, eqb}
+use borrow.Author.Tests.{leb-true, eqb-true}
 use Rattle.buf.specs.Bytes.{bytes_of, zeros, splice, put_num, put_u64, put_f64}
 use Rattle.buf.proofs.Laws.{splice_append, length_bytes_of, length_zeros}
 use Rattle.schedule.specs.Spans.{kind_fits, count_fits}
@@ -14,10 +15,13 @@ use Rattle.block.specs.SameBytes.{SameBytes}
 use Rattle.reader.specs.Alike.{SameNumbers, Alike}
 use Rattle.reader.proofs.AlikeLaws.{bytes_alike, numbers_alike}
 use Rattle.records.specs.declared.types.Outcome.{Outcome}
-use Rattle.records.specs.declared.types.Answered.TheVariants.{Written}
+use Rattle.std.specs.Prelude.{Ok, Err}
+use Rattle.std.specs.Result.{IsErrAnd}
+use Rattle.records.specs.declared.types.Unanswered.{Unanswered}
 use Rattle.records.specs.Outcome.{outcome_of}
 use Rattle.records.specs.Record.{public_bytes, sealed_bytes, record_bytes, sealed_at, sealed_of}
-use Rattle.records.specs.Answered.{answered}
+use Rattle.records.specs.declared.types.Unanswered.TheVariants.{BadKind, BadCount, BadBlockLength, ShortRecord}
+use Rattle.records.specs.Answered.{Answered, check, fits, did_by, answered}
 
 bytes_zeros : (k : ℕ) → bytes_of k 0 ≡ zeros k
 unfolding bytes_of zeros
@@ -47,11 +51,36 @@ pub record_written : (w w₁ w₂ : List ℕ) (ticket kind queue : ℕ) (o : Out
 unfolding record_bytes
 record_written w w₁ w₂ ticket kind queue o e₁ e₂ = rw (e₂, e₁) (sym (rw (splice_append, length_public)))
 
-pub answer_written : (kind n : ℕ) (s w w' : List ℕ) (job : Job) (o : Outcome) → kind_fits kind ≡ true → count_fits kind n ≡ true → length s ≡ 640 → 64 ≤ length w
-    → job ≡ view kind n s → o ≡ outcome_of job → w' ≡ splice w sealed_at (sealed_bytes o) → (Written ≡ (answered kind n s w).answer) × (w' ≡ (answered kind n s w).bytes)
-unfolding answered sealed_of
-answer_written kind n s w w' job o k c l r ej eo ew =
-    simp (k, c, eq-eqb _ _ l, le-leb _ _ r) (refl, ew ∙ ap (λ (p : Outcome). splice w sealed_at (sealed_bytes p)) (eo ∙ ap outcome_of ej))
+-- what the sizes of a request's buffers are where nothing is refused
+pub record Fit (kind n size room : ℕ) : Type 0 where
+  pub fit_kind : kind_fits kind ≡ true
+  pub fit_count : count_fits kind n ≡ true
+  pub block_fits : size ≡ 640
+  pub record_fits : 64 ≤ room
+
+pub fit : (kind n size room : ℕ) {u : Unit {0}} → Ok u ≡ fits kind n size room → Fit kind n size room
+unfolding fits
+fit kind n size room {u} e = go (kind_fits kind) refl (count_fits kind n) refl (eqb size 640) refl (leb 64 room) refl e
+  where
+    go : (t₁ : Bool) → kind_fits kind ≡ t₁ → (t₂ : Bool) → count_fits kind n ≡ t₂ → (t₃ : Bool) → eqb size 640 ≡ t₃ → (t₄ : Bool) → leb 64 room ≡ t₄
+        → ◌≡◌ {A = Answered} (Ok u) (check t₁ BadKind (check t₂ BadCount (check t₃ BadBlockLength (check t₄ ShortRecord (Ok tt))))) → Fit kind n size room
+    go true k true c true l true r e = record { fit_kind = k; fit_count = c; block_fits = eqb-true size 640 l; record_fits = leb-true 64 room r }
+    go true k true c true l false r e = absurd cc
+    go true k true c false l t₄ r e = absurd cc
+    go true k false c t₃ l t₄ r e = absurd cc
+    go false k t₂ c t₃ l t₄ r e = absurd cc
+
+module _ (kind n : ℕ) (s w : List ℕ) where
+  pub answer_refused : (told : Answered) {refusal : Unanswered} → IsErrAnd told (λ y. y ≡ refusal) → Err refusal ≡ fits kind n (length s) (length w)
+      → (told ≡ (answered kind n s w).answer) × (w ≡ (answered kind n s w).bytes)
+  unfolding answered did_by
+  answer_refused (Ok _) h e = elim h [ ]
+  answer_refused (Err y) h e = rw (← e) (ap Err h, refl)
+
+  pub answer_written : (w' : List ℕ) (job : Job) (o : Outcome) {u : Unit {0}} → Ok u ≡ fits kind n (length s) (length w)
+      → job ≡ view kind n s → o ≡ outcome_of job → w' ≡ splice w sealed_at (sealed_bytes o) → (Ok tt ≡ (answered kind n s w).answer) × (w' ≡ (answered kind n s w).bytes)
+  unfolding answered did_by sealed_of
+  answer_written w' job o e ej eo ew = rw (← e) (refl, ew ∙ ap (λ (p : Outcome). splice w sealed_at (sealed_bytes p)) (eo ∙ ap outcome_of ej))
 
 -- ---- data that are alike
 

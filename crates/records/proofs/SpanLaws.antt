@@ -14,6 +14,8 @@ use Rattle.solver_binary.proofs.Spans.{temperature_200, pressure_200}
 use Rattle.block.specs.declared.types.Conditions.{Conditions}
 use Rattle.reader.specs.declared.types.Job.{Job}
 use Rattle.block.specs.Numbers.{numbers_of}
+use Rattle.std.specs.Prelude.{Ok}
+use Rattle.reader.specs.declared.types.Refusal.{Refusal}
 use Rattle.reader.specs.View.{initial_of, branch_of, given_of, task_of, refused, run_blend, view}
 use Rattle.reader.proofs.ViewLaws.{view_keeps, task_by_kind}
 use Rattle.records.specs.Outcome.{Course, course_of, refused_end, search_end, end_of, job_course, outcome_of}
@@ -21,11 +23,11 @@ use Rattle.schedule.specs.Spans.{span_of}
 use Rattle.records.specs.Span.{CourseWithin, refused_within, search_within}
 
 -- each kind's search
-task_within : (blend : Blend) (kind : ℕ) (c : Conditions) → CourseWithin (span_of kind) (course_of blend (task_of kind c))
+task_within : (blend : Blend) (kind : ℕ) (c : Conditions) → CourseWithin (span_of kind) (course_of blend (Ok (task_of kind c)))
 unfolding span_of course_of
 task_within blend kind c =
     let m = max_density blend in
-    task_by_kind (λ kind task. CourseWithin (span_of kind) (course_of blend task)) kind c (search_within (density_3101 m c.temperature c.pressure (initial_of c.choice c.start)))
+    task_by_kind (λ kind task. CourseWithin (span_of kind) (course_of blend (Ok task))) kind c (search_within (density_3101 m c.temperature c.pressure (initial_of c.choice c.start)))
     (search_within (stable_6204 m c.temperature c.pressure))
     (search_within (spinodal_30 m c.temperature c.start))
     (search_within (branch_30 m c.temperature (branch_of c.choice)))
@@ -34,14 +36,14 @@ task_within blend kind c =
     (search_within (temperature_200 m _ _ c.temperature (given_of c.start)))
     (search_within (pressure_200 m _ _ c.pressure (given_of c.temperature) (given_of c.start)))
 
-refused_course : (m number : ℕ) → CourseWithin m (job_course (refused number))
+refused_course : (m : ℕ) (refusal : Refusal) → CourseWithin m (job_course (refused refusal))
 unfolding course_of refused
-refused_course m number = refused_within
+refused_course m refusal = refused_within
 
 pub job_within : (kind n : ℕ) (s : List ℕ) → CourseWithin (span_of kind) (job_course (view kind n s))
 job_within kind n s =
     let d = numbers_of kind n s in
-    view_keeps (λ (job : Job). CourseWithin (span_of kind) (job_course job)) kind n s (λ number e. refused_course (span_of kind) number) (task_within (run_blend kind n d) kind d.conditions)
+    view_keeps (λ (job : Job). CourseWithin (span_of kind) (job_course job)) kind n s (refused_course (span_of kind)) (task_within (run_blend kind n d) kind d.conditions)
 
 end_most : (ev : Evaluator) {n : ℕ} {course : Course} → CourseWithin n course → (end_of ev course).evaluations ≤ n
 unfolding end_of refused_end search_end

@@ -20,9 +20,14 @@ use Rattle.solver.specs.Search.{Evaluator}
 use Rattle.block.specs.declared.types.Conditions.{Conditions}
 use Rattle.reader.specs.declared.types.Job.{Job}
 use Rattle.reader.specs.declared.types.Task.{Task}
+use Rattle.reader.specs.declared.types.Refusal.{Refusal}
+use Rattle.reader.specs.declared.types.Refusal.TheVariants as Refusal
+use Rattle.std.specs.Prelude.{Ok}
+use Rattle.reader.specs.Refusals.{number_of as refusal_number}
 use Rattle.block.specs.Numbers.{numbers_of}
 use Rattle.reader.specs.View.{task_of, refused, check, last_checks, checked, view, ready_job}
 use Rattle.reader.proofs.ViewLaws.{task_keeps}
+use Rattle.records.specs.declared.types.Outcome.{Outcome}
 use Rattle.records.specs.Outcome.{course_of, refused_end, search_end, end_of, outcome_of}
 use Rattle.records.specs.Record.{float_bytes, sealed_bytes, sealed_of}
 use Rattle.schedule.specs.Refusals.{Inside, CountRight}
@@ -44,10 +49,10 @@ answer_status (Err WrongBranch) = SearchStatus.refused {number = 25} (omega arit
 answer_status (Err Supercritical) = SearchStatus.refused {number = 26} (omega arith)
 answer_status (Err NotFinite) = SearchStatus.refused {number = 27} (omega arith)
 
-task_status : (ev : Evaluator) (blend : Blend) (kind : ℕ) (c : Conditions) → SearchStatus (end_of ev (course_of blend (task_of kind c))).status
+task_status : (ev : Evaluator) (blend : Blend) (kind : ℕ) (c : Conditions) → SearchStatus (end_of ev (course_of blend (Ok (task_of kind c)))).status
 unfolding course_of end_of search_end
 task_status ev blend kind c =
-    task_keeps (λ (task : Task). SearchStatus (end_of ev (course_of blend task)).status) kind c (answer_status _) (answer_status _) (answer_status _) (answer_status _) (answer_status _) (answer_status _) (answer_status _)
+    task_keeps (λ (task : Task). SearchStatus (end_of ev (course_of blend (Ok task))).status) kind c (answer_status _) (answer_status _) (answer_status _) (answer_status _) (answer_status _) (answer_status _) (answer_status _)
     (answer_status _)
 
 -- ---- numbers one after the other
@@ -62,13 +67,17 @@ read_later x rest i = ap (λ (s : List ℕ). le (take 8 s)) (ap (λ (k : ℕ). d
 
 -- ---- the checks of a request's data
 
-refused_status : (number : ℕ) → (outcome_of (refused number)).status ≡ number
+refused_status : (refusal : Refusal) → (outcome_of (refused refusal)).status ≡ refusal_number refusal
 unfolding outcome_of end_of course_of refused refused_end
-refused_status number = refl
+refused_status refusal = refl
+
+refused_end_status : (number : ℕ) → (refused_end number).status ≡ number
+unfolding refused_end
+refused_end_status number = refl
 
 -- "all on refusal, are +0"
-refused_bytes : (number : ℕ) → sealed_bytes (outcome_of (refused number)) ≡ bytes_of 8 number ++ zeros 40
-unfolding outcome_of end_of course_of refused refused_end sealed_bytes
+refused_bytes : (number : ℕ) → sealed_bytes (refused_end number) ≡ bytes_of 8 number ++ zeros 40
+unfolding refused_end sealed_bytes
 refused_bytes number = ap (λ (s : List ℕ). bytes_of 8 number ++ s) rest
   where
     rest : float_bytes f0 ++ (float_bytes f0 ++ (float_bytes f0 ++ (bytes_of 8 0 ++ zeros 8))) ≡ zeros 40
@@ -87,7 +96,7 @@ module _ (kind n : ℕ) (block : List ℕ) (k : Inside 1 9 kind) (c : CountRight
 
   -- the view, from the tests of its checks
   abbrev by_checks : (t₁ t₂ t₃ t₄ t₅ t₆ t₇ : Bool) → Job
-  by_checks t₁ t₂ t₃ t₄ t₅ t₆ t₇ = check t₁ 11 (check t₂ 12 (check t₃ 13 (check t₄ 14 (check t₅ 17 (check t₆ 15 (check t₇ 16 ready))))))
+  by_checks t₁ t₂ t₃ t₄ t₅ t₆ t₇ = check t₁ Refusal.Pairs (check t₂ Refusal.Components (check t₃ Refusal.Interactions (check t₄ Refusal.Fractions (check t₅ Refusal.FractionSum (check t₆ Refusal.Conditions (check t₇ Refusal.Choice ready))))))
 
   view_is : job ≡ by_checks (pairs kind n block) (components kind n block) (interactions kind n block) (fractions kind n block) (sum kind n block) (conditions kind n block) (run kind n block)
   unfolding view checked last_checks
@@ -98,28 +107,34 @@ module _ (kind n : ℕ) (block : List ℕ) (k : Inside 1 9 kind) (c : CountRight
     where
       go : (t₁ t₂ t₃ t₄ t₅ t₆ t₇ : Bool) → pairs kind n block ≡ t₁ → components kind n block ≡ t₂ → interactions kind n block ≡ t₃ → fractions kind n block ≡ t₄ → sum kind n block ≡ t₅ → conditions kind n block ≡ t₆
           → run kind n block ≡ t₇ → DataTests kind n block (outcome_of (by_checks t₁ t₂ t₃ t₄ t₅ t₆ t₇)).status
-      go false t₂ t₃ t₄ t₅ t₆ t₇ e₁ e₂ e₃ e₄ e₅ e₆ e₇ = rw (refused_status 11) (DataTests.refused_11 e₁)
-      go true false t₃ t₄ t₅ t₆ t₇ e₁ e₂ e₃ e₄ e₅ e₆ e₇ = rw (refused_status 12) (DataTests.refused_12 e₁ e₂)
-      go true true false t₄ t₅ t₆ t₇ e₁ e₂ e₃ e₄ e₅ e₆ e₇ = rw (refused_status 13) (DataTests.refused_13 e₁ e₂ e₃)
-      go true true true false t₅ t₆ t₇ e₁ e₂ e₃ e₄ e₅ e₆ e₇ = rw (refused_status 14) (DataTests.refused_14 e₁ e₂ e₃ e₄)
-      go true true true true false t₆ t₇ e₁ e₂ e₃ e₄ e₅ e₆ e₇ = rw (refused_status 17) (DataTests.refused_17 e₁ e₂ e₃ e₄ e₅)
-      go true true true true true false t₇ e₁ e₂ e₃ e₄ e₅ e₆ e₇ = rw (refused_status 15) (DataTests.refused_15 e₁ e₂ e₃ e₄ e₅ e₆)
-      go true true true true true true false e₁ e₂ e₃ e₄ e₅ e₆ e₇ = rw (refused_status 16) (DataTests.refused_16 e₁ e₂ e₃ e₄ e₅ e₆ e₇)
+      go false t₂ t₃ t₄ t₅ t₆ t₇ e₁ e₂ e₃ e₄ e₅ e₆ e₇ = unfold refusal_number in rw (refused_status Refusal.Pairs) (DataTests.refused_11 e₁)
+      go true false t₃ t₄ t₅ t₆ t₇ e₁ e₂ e₃ e₄ e₅ e₆ e₇ = unfold refusal_number in rw (refused_status Refusal.Components) (DataTests.refused_12 e₁ e₂)
+      go true true false t₄ t₅ t₆ t₇ e₁ e₂ e₃ e₄ e₅ e₆ e₇ = unfold refusal_number in rw (refused_status Refusal.Interactions) (DataTests.refused_13 e₁ e₂ e₃)
+      go true true true false t₅ t₆ t₇ e₁ e₂ e₃ e₄ e₅ e₆ e₇ = unfold refusal_number in rw (refused_status Refusal.Fractions) (DataTests.refused_14 e₁ e₂ e₃ e₄)
+      go true true true true false t₆ t₇ e₁ e₂ e₃ e₄ e₅ e₆ e₇ = unfold refusal_number in rw (refused_status Refusal.FractionSum) (DataTests.refused_17 e₁ e₂ e₃ e₄ e₅)
+      go true true true true true false t₇ e₁ e₂ e₃ e₄ e₅ e₆ e₇ = unfold refusal_number in rw (refused_status Refusal.Conditions) (DataTests.refused_15 e₁ e₂ e₃ e₄ e₅ e₆)
+      go true true true true true true false e₁ e₂ e₃ e₄ e₅ e₆ e₇ = unfold refusal_number in rw (refused_status Refusal.Choice) (DataTests.refused_16 e₁ e₂ e₃ e₄ e₅ e₆ e₇)
       go true true true true true true true e₁ e₂ e₃ e₄ e₅ e₆ e₇ = DataTests.passed e₁ e₂ e₃ e₄ e₅ e₆ e₇ ready_status
 
   search_not : {number : ℕ} → SearchStatus number → Inside 11 17 number → ⊥
   search_not found i = omega arith
   search_not (SearchStatus.refused j) i = omega arith
 
-  only_job : (number : ℕ) → Inside 11 17 number → DataTests kind n block number → job ≡ refused number
-  only_job number i (DataTests.refused_11 e₁) = rw (view_is, e₁)
-  only_job number i (DataTests.refused_12 e₁ e₂) = rw (view_is, e₁, e₂)
-  only_job number i (DataTests.refused_13 e₁ e₂ e₃) = rw (view_is, e₁, e₂, e₃)
-  only_job number i (DataTests.refused_14 e₁ e₂ e₃ e₄) = rw (view_is, e₁, e₂, e₃, e₄)
-  only_job number i (DataTests.refused_17 e₁ e₂ e₃ e₄ e₅) = rw (view_is, e₁, e₂, e₃, e₄, e₅)
-  only_job number i (DataTests.refused_15 e₁ e₂ e₃ e₄ e₅ e₆) = rw (view_is, e₁, e₂, e₃, e₄, e₅, e₆)
-  only_job number i (DataTests.refused_16 e₁ e₂ e₃ e₄ e₅ e₆ e₇) = rw (view_is, e₁, e₂, e₃, e₄, e₅, e₆, e₇)
-  only_job number i (DataTests.passed e₁ e₂ e₃ e₄ e₅ e₆ e₇ s) = absurd (search_not s i)
+  -- what a refused job ends with
+  ended_by : (refusal : Refusal) → job ≡ refused refusal → outcome_of job ≡ refused_end (refusal_number refusal)
+  unfolding outcome_of end_of course_of refused
+  ended_by refusal e = rw e
+
+  only_end : (number : ℕ) → Inside 11 17 number → DataTests kind n block number → outcome_of job ≡ refused_end number
+  unfolding refusal_number
+  only_end number i (DataTests.refused_11 e₁) = ended_by Refusal.Pairs (rw (view_is, e₁))
+  only_end number i (DataTests.refused_12 e₁ e₂) = ended_by Refusal.Components (rw (view_is, e₁, e₂))
+  only_end number i (DataTests.refused_13 e₁ e₂ e₃) = ended_by Refusal.Interactions (rw (view_is, e₁, e₂, e₃))
+  only_end number i (DataTests.refused_14 e₁ e₂ e₃ e₄) = ended_by Refusal.Fractions (rw (view_is, e₁, e₂, e₃, e₄))
+  only_end number i (DataTests.refused_17 e₁ e₂ e₃ e₄ e₅) = ended_by Refusal.FractionSum (rw (view_is, e₁, e₂, e₃, e₄, e₅))
+  only_end number i (DataTests.refused_15 e₁ e₂ e₃ e₄ e₅ e₆) = ended_by Refusal.Conditions (rw (view_is, e₁, e₂, e₃, e₄, e₅, e₆))
+  only_end number i (DataTests.refused_16 e₁ e₂ e₃ e₄ e₅ e₆ e₇) = ended_by Refusal.Choice (rw (view_is, e₁, e₂, e₃, e₄, e₅, e₆, e₇))
+  only_end number i (DataTests.passed e₁ e₂ e₃ e₄ e₅ e₆ e₇ s) = absurd (search_not s i)
 
   status_of_lem : {number : ℕ} → DataTests kind n block number → Status number
   status_of_lem (DataTests.refused_11 e₁) = of_data_lem {number = 11} (omega arith)
@@ -150,17 +165,17 @@ module _ (kind n : ℕ) (block : List ℕ) (k : Inside 1 9 kind) (c : CountRight
       let low : (outcome_of job).evaluations < 2 ^ 64 = omega arith in
       read_later _ _ 24 ∙ read_later _ _ 16 ∙ read_later _ _ 8 ∙ read_later _ _ 0 ∙ read_first (outcome_of job).evaluations _ low
 
-sealed_job : (kind n : ℕ) (block : List ℕ) (j : Job) → view kind n block ≡ j → sealed_of kind n block ≡ sealed_bytes (outcome_of j)
+sealed_end : (kind n : ℕ) (block : List ℕ) (o : Outcome) → outcome_of (view kind n block) ≡ o → sealed_of kind n block ≡ sealed_bytes o
 unfolding sealed_of
-sealed_job kind n block j e = rw e
+sealed_end kind n block o e = rw e
 
 pub statuses : Statuses
 statuses kind n block k c l =
     let e = status_read kind n block k c l in
     record {
       tests = rw e (status_tests kind n block k c l);
-      only = λ number i t. e ∙ ap (λ (j : Job). (outcome_of j).status) (only_job kind n block k c l number i t) ∙ refused_status number;
-      refused_bytes = λ number i t. sealed_job kind n block (refused number) (only_job kind n block k c l number i t) ∙ refused_bytes number;
+      only = λ number i t. e ∙ ap (λ (o : Outcome). o.status) (only_end kind n block k c l number i t) ∙ refused_end_status number;
+      refused_bytes = λ number i t. sealed_end kind n block (refused_end number) (only_end kind n block k c l number i t) ∙ refused_bytes number;
       status = rw e (status_of_lem kind n block k c l (status_tests kind n block k c l));
       evaluations = rw (evaluations_read kind n block k c l) (evaluations_most kind n block);
     }

@@ -1,5 +1,5 @@
 -- How a job ends: document 01's "first data refusal's, else those of the definition's end .. with the evaluations made". Definitions only.
-use Rattle.std.specs.Prelude.{ℕ}
+use Rattle.std.specs.Prelude.{ℕ, Ok, Err}
 use Rattle.float.specs.Ops.{f0}
 use Rattle.float.specs.Sign.{finite_of}
 use Rattle.eos.specs.declared.types.Blend.{Blend}
@@ -16,7 +16,10 @@ use Rattle.solver_critical.specs.Spinodal.{spinodal}
 use Rattle.solver_binary.specs.CriticalPointBinary.{critical_point_binary_t, critical_point_binary_p}
 use Rattle.reader.specs.declared.types.Job.{Job}
 use Rattle.reader.specs.declared.types.Task.{Task}
+use Rattle.reader.specs.declared.types.Refusal.{Refusal}
+use Rattle.std.specs.declared.result.Result.{Result}
 use Rattle.reader.specs.declared.types.Task.TheVariants as Task
+use Rattle.reader.specs.Refusals.{number_of}
 use Rattle.records.specs.declared.types.Outcome.{Outcome}
 
 -- a job is refused by its data, or it is a search
@@ -25,16 +28,16 @@ pub data Course : Type 0 where
   searches : Search → Course
 
 -- "Kinds and spans": each kind's search, from the maximum density of its blend; kinds 8 and 9 "start from the block's fractions"
-unfoldable pub course_of : Blend → Task → Course
-course_of blend (Task.Refused number) = refused_by number
-course_of blend (Task.DensityIteration t p initial) = searches (density_iteration (max_density blend) t p initial)
-course_of blend (Task.DensityIterationStable t p) = searches (density_iteration_stable (max_density blend) t p)
-course_of blend (Task.PressureSpinodal t start) = searches (pressure_spinodal (max_density blend) t start)
-course_of blend (Task.PressureSpinodalBranch t branch) = searches (pressure_spinodal_branch (max_density blend) t branch)
-course_of blend (Task.CriticalPoint t density) = searches (critical_point (max_density blend) t density)
-course_of blend (Task.Spinodal t) = searches (spinodal (max_density blend) t)
-course_of blend (Task.CriticalPointBinaryT t density) = searches (critical_point_binary_t (max_density blend) (nth blend.x 0) (nth blend.x 1) t density)
-course_of blend (Task.CriticalPointBinaryP p t density) = searches (critical_point_binary_p (max_density blend) (nth blend.x 0) (nth blend.x 1) p t density)
+unfoldable pub course_of : Blend → Result Task Refusal → Course
+course_of blend (Err refusal) = refused_by (number_of refusal)
+course_of blend (Ok (Task.DensityIteration t p initial)) = searches (density_iteration (max_density blend) t p initial)
+course_of blend (Ok (Task.DensityIterationStable t p)) = searches (density_iteration_stable (max_density blend) t p)
+course_of blend (Ok (Task.PressureSpinodal t start)) = searches (pressure_spinodal (max_density blend) t start)
+course_of blend (Ok (Task.PressureSpinodalBranch t branch)) = searches (pressure_spinodal_branch (max_density blend) t branch)
+course_of blend (Ok (Task.CriticalPoint t density)) = searches (critical_point (max_density blend) t density)
+course_of blend (Ok (Task.Spinodal t)) = searches (spinodal (max_density blend) t)
+course_of blend (Ok (Task.CriticalPointBinaryT t density)) = searches (critical_point_binary_t (max_density blend) (nth blend.x 0) (nth blend.x 1) t density)
+course_of blend (Ok (Task.CriticalPointBinaryP p t density)) = searches (critical_point_binary_p (max_density blend) (nth blend.x 0) (nth blend.x 1) p t density)
 
 -- "Unused floats, and all on refusal, are +0"; a data refusal comes before any evaluation
 unfoldable pub refused_end : ℕ → Outcome

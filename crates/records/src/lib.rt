@@ -7,6 +7,6 @@ mod types;
 mod writer;
 
 pub use crate::outcomes::run_job;
-pub use crate::requests::{answer, number};
-pub use crate::types::{Answered, Outcome};
+pub use crate::requests::{answer, fits, number};
+pub use crate::types::{Outcome, Unanswered};
 pub use crate::writer::{write_record, write_sealed};

@@ -39,9 +39,11 @@ pub fn run_job(job: Job) -> Outcome
     ensures { result ≡ outcome_of job }
 {
     let blend = job.blend;
-    let task = job.task;
+    let task = match job.task {
+        Ok(task) => task,
+        Err(refusal) => return refused(u64::from(refusal)),
+    };
     match task {
-        Task::Refused(number) => refused(number),
         Task::DensityIteration(temperature, pressure, initial) => {
             ended(solver_density::density_iteration(blend, temperature, pressure, initial))
         }

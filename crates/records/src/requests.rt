@@ -1,40 +1,52 @@
 // A whole job answered at once.
-ghost use Rattle.std.specs.Prelude.{◌≡◌};
-ghost use Rattle.records.specs.Answered.{number_of, answered};
+ghost use Rattle.std.specs.Prelude.{◌≡◌, cond, length, Ok, Err};
+ghost use Rattle.records.specs.Answered.{number_of, answered, fits as fits_of};
 
 use crate::outcomes::run_job;
-use crate::types::Answered;
+use crate::types::Unanswered;
 use crate::writer::write_sealed;
 
-pub fn number(answered: Answered) -> u64
+#[tactic(auto, unfolding(crate::specs::Answered::number_of))]
+pub fn number(answered: Result<(), Unanswered>) -> u64
     ensures { result ≡ number_of answered }
 {
     match answered {
-        Answered::Written => 0,
-        Answered::BadKind => 2,
-        Answered::BadCount => 3,
-        Answered::BadBlockLength => 8,
-        Answered::ShortRecord => 5,
+        Ok(()) => 0,
+        Err(refusal) => u64::from(refusal),
     }
 }
 
-// Runs the job of a request to its end and writes the sealed part of the record, bytes 16 to 63. A refusal changes nothing.
-pub fn answer(kind: u64, n: u64, block: &[u8], record: &mut [u8]) -> Answered
-    ensures { (result ≡ (answered kind n block.now «record».old).answer) × («record».new ≡ (answered kind n block.now «record».old).bytes) }
+// Whether a request can be answered in a record of this size.
+#[tactic(auto, unfolding(crate::specs::Answered::fits))]
+pub fn fits(kind: u64, n: u64, block: &[u8], record: &[u8]) -> Result<(), Unanswered>
+    ensures { result ≡ fits_of kind n (length block.now) (length record.now) }
 {
     if !schedule::kind_fits(kind) {
-        return Answered::BadKind;
+        return Err(Unanswered::BadKind);
     }
     if !schedule::count_fits(kind, n) {
-        return Answered::BadCount;
+        return Err(Unanswered::BadCount);
     }
     if block.len() != 640 {
-        return Answered::BadBlockLength;
+        return Err(Unanswered::BadBlockLength);
     }
     if record.len() < 64 {
-        return Answered::ShortRecord;
+        return Err(Unanswered::ShortRecord);
     }
+    Ok(())
+}
+
+// Runs the job of a request to its end and writes the sealed part of the record, bytes 16 to 63. A refusal changes nothing.
+pub fn answer(
+    kind: u64,
+    n: u64,
+    block: &[u8],
+    record: &mut [u8],
+) -> Result<(), Unanswered>
+    ensures { (result ≡ (answered kind n block.now «record».old).answer) × («record».new ≡ (answered kind n block.now «record».old).bytes) }
+{
+    fits(kind, n, block, record)?;
     let job = reader::view(kind, n, block);
     write_sealed(record, run_job(job));
-    Answered::Written
+    Ok(())
 }

@@ -16,6 +16,8 @@ use Rattle.solver_state.specs.declared.types.Job as Search
 use Rattle.solver_state.specs.State as Steps
 use Rattle.block.specs.declared.types.Conditions.{Conditions}
 use Rattle.reader.specs.declared.types.Task.{Task}
+use Rattle.reader.specs.declared.types.Refusal.{Refusal}
+use Rattle.std.specs.declared.result.Result.{Result}
 use Rattle.reader.specs.declared.types.Task.TheVariants as Task
 use Rattle.reader.specs.declared.types.Job.{Job}
 use Rattle.block.specs.Pairs.{offset_of, conditions}
@@ -24,7 +26,7 @@ use Rattle.block.specs.Checks.{plus_zero}
 use Rattle.block.proofs.NumberLaws.{numbers_rows}
 use Rattle.reader.specs.View.{initial_of, given_of, task_of, refused, view}
 use Rattle.reader.proofs.ViewLaws.{view_keeps, task_keeps}
-use Rattle.stepping.specs.declared.types.Work.TheVariants as Work
+use Rattle.std.specs.Prelude.{Ok, Err}
 use Rattle.stepping.specs.Stepping.{work_of, refused_state, start_by, start_of, uncounted, step_by, step_of}
 use Rattle.stepping.specs.Storable.{FloatsStorable}
 use Rattle.stepping.proofs.Yields.{YieldsFit}
@@ -41,7 +43,6 @@ InitialFits Liquid = Unit {0}
 InitialFits (InitialDensity ρ) = Fit ρ
 
 abbrev pub TaskFits : Task → Type 0
-TaskFits (Task.Refused number) = Unit {0}
 TaskFits (Task.DensityIteration t p initial) = Fit t × Fit p × InitialFits initial
 TaskFits (Task.DensityIterationStable t p) = Fit t × Fit p
 TaskFits (Task.PressureSpinodal t start) = Fit t × Fit start
@@ -79,14 +80,19 @@ task_fits kind c g =
     (given_fits c.temperature g.temperature, given_fits c.start g.start) g.temperature (g.temperature, given_fits c.start g.start)
     (g.pressure, given_fits c.temperature g.temperature, given_fits c.start g.start)
 
-refused_fits : (number : ℕ) → TaskFits (refused number).task
+-- of a refused job there is no task
+abbrev pub WorkFits : Result Task Refusal → Type 0
+WorkFits (Ok task) = TaskFits task
+WorkFits (Err refusal) = Unit {0}
+
+refused_fits : (refusal : Refusal) → WorkFits (refused refusal).task
 unfolding refused
-refused_fits number = tt
+refused_fits refusal = tt
 
 -- a request is refused, or the floats of its task fit
-pub view_fits : (kind n : ℕ) (block : List ℕ) → TaskFits (view kind n block).task
+pub view_fits : (kind n : ℕ) (block : List ℕ) → WorkFits (view kind n block).task
 view_fits kind n block =
-    view_keeps (λ (job : Job). TaskFits job.task) kind n block (λ number e. refused_fits number)
+    view_keeps (λ (job : Job). WorkFits job.task) kind n block refused_fits
     (rw (numbers_rows kind n block) (task_fits kind _ (conditions_read kind block (offset_of block conditions))))
 
 -- and so does the maximum density of any blend
@@ -98,7 +104,7 @@ max_density_fits blend = div-fits binary64 _ _
 
 -- a count put otherwise changes no float
 recounted : (job : Search.Job) (ev : Evaluator) → ((s : State) → FloatsStorable s → FloatsStorable (Steps.step_of job ev s))
-    → (s : State) → FloatsStorable s → FloatsStorable (step_by ev (Work.Search job) s)
+    → (s : State) → FloatsStorable s → FloatsStorable (step_by ev (Ok job) s)
 unfolding step_by
 recounted job ev step s k =
     let h = step (uncounted s) (record { values = k.values; latest = k.latest }) in
@@ -120,29 +126,29 @@ module _ (blend : Blend) where
   density_conditions : (t p : Float) (initial : DensityInitialization) → TaskFits (Task.DensityIteration t p initial) → ConditionsFit (Density.conditions_of maxdensity t p initial)
   density_conditions t p initial (ht, hp, hi) = conditions_fit_lem maxdensity t p initial m ht hp (start_density_lem t p initial hi)
 
-  begins : (task : Task) → TaskFits task → FloatsStorable (start_by (work_of blend task))
-  unfolding work_of start_by refused_state
-  begins (Task.Refused number) h = record { values = record { first = zero_fits; second = zero_fits; third = zero_fits }; latest = zero_fits }
-  begins (Task.DensityIteration t p initial) h = density_begin_lem _ (density_conditions t p initial h)
-  begins (Task.DensityIterationStable t p) (ht, hp) = stable_begin_lem maxdensity t p m ht hp
-  begins (Task.PressureSpinodal t start) (ht, hs) = spinodal_begin maxdensity t start m ht hs
-  begins (Task.PressureSpinodalBranch t branch) ht = branch_begin_lem maxdensity t branch m ht
-  begins (Task.CriticalPoint t density) (ht, hd) = critical_begin_lem maxdensity t density ht hd
-  begins (Task.Spinodal t) ht = spinodals_begin_lem maxdensity t
-  begins (Task.CriticalPointBinaryT t density) h = temperature_begin_lem maxdensity _ _ t density
-  begins (Task.CriticalPointBinaryP p t density) (hp, ht, hd) = pressure_begin_lem maxdensity _ _ p t density ht
+  begins : (task : Result Task Refusal) → WorkFits task → FloatsStorable (start_by (work_of blend task))
+  unfolding work_of task_search start_by refused_state
+  begins (Err refusal) h = record { values = record { first = zero_fits; second = zero_fits; third = zero_fits }; latest = zero_fits }
+  begins (Ok (Task.DensityIteration t p initial)) h = density_begin_lem _ (density_conditions t p initial h)
+  begins (Ok (Task.DensityIterationStable t p)) (ht, hp) = stable_begin_lem maxdensity t p m ht hp
+  begins (Ok (Task.PressureSpinodal t start)) (ht, hs) = spinodal_begin maxdensity t start m ht hs
+  begins (Ok (Task.PressureSpinodalBranch t branch)) ht = branch_begin_lem maxdensity t branch m ht
+  begins (Ok (Task.CriticalPoint t density)) (ht, hd) = critical_begin_lem maxdensity t density ht hd
+  begins (Ok (Task.Spinodal t)) ht = spinodals_begin_lem maxdensity t
+  begins (Ok (Task.CriticalPointBinaryT t density)) h = temperature_begin_lem maxdensity _ _ t density
+  begins (Ok (Task.CriticalPointBinaryP p t density)) (hp, ht, hd) = pressure_begin_lem maxdensity _ _ p t density ht
 
-  steps : (ev : Evaluator) → YieldsFit ev → (task : Task) → TaskFits task → (s : State) → FloatsStorable s → FloatsStorable (step_by ev (work_of blend task) s)
-  unfolding work_of
-  steps ev y (Task.Refused number) h = unfold step_by in λ s k. k
-  steps ev y (Task.DensityIteration t p initial) h = recounted _ ev (λ s. density_steps _ ev s (density_conditions t p initial h) y)
-  steps ev y (Task.DensityIterationStable t p) (ht, hp) = recounted _ ev (λ s. stable_steps maxdensity t p ev s m ht hp y)
-  steps ev y (Task.PressureSpinodal t start) (ht, hs) = recounted _ ev (λ s. spinodal_steps maxdensity t start ev s m ht hs y)
-  steps ev y (Task.PressureSpinodalBranch t branch) ht = recounted _ ev (λ s. branch_steps maxdensity t branch ev s m ht y)
-  steps ev y (Task.CriticalPoint t density) (ht, hd) = recounted _ ev (λ s. critical_steps maxdensity t density ev s hd)
-  steps ev y (Task.Spinodal t) ht = recounted _ ev (λ s. spinodals_steps maxdensity t ev s)
-  steps ev y (Task.CriticalPointBinaryT t density) h = recounted _ ev (λ s. temperature_steps maxdensity _ _ t density ev s)
-  steps ev y (Task.CriticalPointBinaryP p t density) h = recounted _ ev (λ s. pressure_steps maxdensity _ _ p t density ev s)
+  steps : (ev : Evaluator) → YieldsFit ev → (task : Result Task Refusal) → WorkFits task → (s : State) → FloatsStorable s → FloatsStorable (step_by ev (work_of blend task) s)
+  unfolding work_of task_search
+  steps ev y (Err refusal) h = unfold step_by in λ s k. k
+  steps ev y (Ok (Task.DensityIteration t p initial)) h = recounted _ ev (λ s. density_steps _ ev s (density_conditions t p initial h) y)
+  steps ev y (Ok (Task.DensityIterationStable t p)) (ht, hp) = recounted _ ev (λ s. stable_steps maxdensity t p ev s m ht hp y)
+  steps ev y (Ok (Task.PressureSpinodal t start)) (ht, hs) = recounted _ ev (λ s. spinodal_steps maxdensity t start ev s m ht hs y)
+  steps ev y (Ok (Task.PressureSpinodalBranch t branch)) ht = recounted _ ev (λ s. branch_steps maxdensity t branch ev s m ht y)
+  steps ev y (Ok (Task.CriticalPoint t density)) (ht, hd) = recounted _ ev (λ s. critical_steps maxdensity t density ev s hd)
+  steps ev y (Ok (Task.Spinodal t)) ht = recounted _ ev (λ s. spinodals_steps maxdensity t ev s)
+  steps ev y (Ok (Task.CriticalPointBinaryT t density)) h = recounted _ ev (λ s. temperature_steps maxdensity _ _ t density ev s)
+  steps ev y (Ok (Task.CriticalPointBinaryP p t density)) h = recounted _ ev (λ s. pressure_steps maxdensity _ _ p t density ev s)
 
 -- the first state
 pub start_floats : (kind n : ℕ) (block : List ℕ) → FloatsStorable (start_of (view kind n block))

@@ -18,9 +18,8 @@ use Rattle.solver_state.proofs.Ranges.{ranges_kept}
 use Rattle.reader.specs.View.{view}
 use Rattle.reader.proofs.ViewLaws.{of_data_low}
 use Rattle.schedule.proofs.Tests.{left_true, right_true}
-use Rattle.stepping.specs.declared.types.Work.{Work}
-use Rattle.stepping.specs.declared.types.Work.TheVariants as Work
-use Rattle.stepping.specs.Stepping.{work_in, uncounted, step_by, step_of, at_end, data_refusal, state_fits}
+use Rattle.std.specs.Prelude.{Ok, Err}
+use Rattle.stepping.specs.Stepping.{Work, work_in, uncounted, step_by, step_of, at_end, data_refusal, state_fits}
 use Rattle.stepping.specs.States.{wrapped}
 use Rattle.stepping.specs.Storable.{CountersStorable, Storable}
 use Rattle.stepping.proofs.JobFloats.{step_floats}
@@ -116,8 +115,8 @@ end_stays job ev s h = go job
 
 work_kept : (kind : ℕ) (ev : Evaluator) (w : Work) (s : State) → OfKind kind w → state_fits kind s ≡ true → state_fits kind (step_by ev w s) ≡ true
 unfolding step_by state_fits
-work_kept kind ev (Work.Refused number) s o h = h
-work_kept kind ev (Work.Search job) s o h =
+work_kept kind ev (Err refusal) s o h = h
+work_kept kind ev (Ok job) s o h =
     or_either (in_ranges kind s.numbers.counters) (data_refusal s.numbers.counters) h
     (λ e. or_left _ _ (subst (within (Steps.step_of job ev (uncounted s))) (sym o) (ranges_kept job ev (uncounted s) (subst (within s) o e))))
     (λ e. ap (λ (x : State). in_ranges kind x.numbers.counters || data_refusal x.numbers.counters) (end_stays job ev (uncounted s) (ended e)) ∙ h)
@@ -135,8 +134,8 @@ fits_kept kind n block s h = work_kept kind _ (work_in (view kind n block)) s (v
 
 count_kept : (ev : Evaluator) (w : Work) (s : State) → s.evaluations < 2 ^ 64 → (step_by ev w s).evaluations < 2 ^ 64
 unfolding step_by
-count_kept ev (Work.Refused number) s h = h
-count_kept ev (Work.Search job) s h = below_64 (s.evaluations + (Steps.step_of job ev (uncounted s)).evaluations)
+count_kept ev (Err refusal) s h = h
+count_kept ev (Ok job) s h = below_64 (s.evaluations + (Steps.step_of job ev (uncounted s)).evaluations)
   where
     below_64 : (n : ℕ) → n % 2 ^ 64 < 2 ^ 64
     below_64 n = omega arith
@@ -152,7 +151,7 @@ stored_kept kind n block s h f =
 
 -- ---- as a search under way
 
-pub work_next : (ev : Evaluator) (job : Job) (s : State) → going job (step_by ev (Work.Search job) s) ≡ wrapped (next finite_of ev (going job s))
+pub work_next : (ev : Evaluator) (job : Job) (s : State) → going job (step_by ev (Ok job) s) ≡ wrapped (next finite_of ev (going job s))
 unfolding step_by going wrapped
 work_next ev job s =
     ap (λ (x : State). wrapped (going job x)) (sym (step_apart job ev s)) ∙ ap wrapped (step_law job ev s)

@@ -14,6 +14,9 @@ use Rattle.solver_density.specs.Density.{density_iteration}
 use Rattle.solver_state.specs.declared.types.State.{State}
 use Rattle.solver_state.specs.State.{search_of, left_of, going}
 use Rattle.reader.specs.declared.types.Task.{Task}
+use Rattle.reader.specs.declared.types.Refusal.{Refusal}
+use Rattle.std.specs.declared.result.Result.{Result}
+use Rattle.reader.specs.Refusals.{number_of}
 use Rattle.reader.specs.declared.types.Task.TheVariants as Task
 use Rattle.reader.specs.View.{of_data, view}
 use Rattle.records.specs.Outcome.{Course, refused_by, searches, course_of, refused_end, search_end, end_of, outcome_of}
@@ -21,9 +24,8 @@ use Rattle.records.specs.Record.{sealed_bytes, sealed_of}
 use Rattle.records.specs.Span.{CourseWithin, search_within}
 use Rattle.records.proofs.SpanLaws.{job_within}
 use Rattle.schedule.specs.Spans.{span_of}
-use Rattle.stepping.specs.declared.types.Work.{Work}
-use Rattle.stepping.specs.declared.types.Work.TheVariants as Work
-use Rattle.stepping.specs.Stepping.{work_of, work_in, refused_state, at_end, data_refusal, state_fits, result_of}
+use Rattle.std.specs.Prelude.{Ok, Err}
+use Rattle.stepping.specs.Stepping.{Work, work_of, work_in, refused_state, at_end, data_refusal, state_fits, result_of}
 use Rattle.stepping.specs.States.{Request, state_after, outcome_at, Sight, sight_of, sight}
 use Rattle.stepping.specs.Storable.{FloatsStorable, Storable}
 use Rattle.stepping.specs.Laws.{Stepping}
@@ -38,27 +40,27 @@ use Rattle.stepping.proofs.Kept.{or_left, or_right, counters_stored}
 -- ---- the work of a task is its course
 
 course_by : Work → Course
-course_by (Work.Refused number) = refused_by number
-course_by (Work.Search job) = searches (search_of job)
+course_by (Err refusal) = refused_by (number_of refusal)
+course_by (Ok job) = searches (search_of job)
 
-course_work : (blend : Blend) (task : Task) → course_of blend task ≡ course_by (work_of blend task)
-unfolding course_of course_by work_of search_of density_iteration
-course_work blend (Task.Refused number) = refl
-course_work blend (Task.DensityIteration t p initial) = refl
-course_work blend (Task.DensityIterationStable t p) = refl
-course_work blend (Task.PressureSpinodal t start) = refl
-course_work blend (Task.PressureSpinodalBranch t branch) = refl
-course_work blend (Task.CriticalPoint t density) = refl
-course_work blend (Task.Spinodal t) = refl
-course_work blend (Task.CriticalPointBinaryT t density) = refl
-course_work blend (Task.CriticalPointBinaryP p t density) = refl
+course_work : (blend : Blend) (task : Result Task Refusal) → course_of blend task ≡ course_by (work_of blend task)
+unfolding course_of course_by work_of task_search search_of density_iteration
+course_work blend (Err refusal) = refl
+course_work blend (Ok (Task.DensityIteration t p initial)) = refl
+course_work blend (Ok (Task.DensityIterationStable t p)) = refl
+course_work blend (Ok (Task.PressureSpinodal t start)) = refl
+course_work blend (Ok (Task.PressureSpinodalBranch t branch)) = refl
+course_work blend (Ok (Task.CriticalPoint t density)) = refl
+course_work blend (Ok (Task.Spinodal t)) = refl
+course_work blend (Ok (Task.CriticalPointBinaryT t density)) = refl
+course_work blend (Ok (Task.CriticalPointBinaryP p t density)) = refl
 
 -- ---- in range
 
 states_fit : (kind : ℕ) (ev : Evaluator) (w : Work) (k : ℕ) → OfKind kind w → by_data w ≡ true → state_fits kind (states ev w k) ≡ true
 unfolding states state_fits by_data refused_state data_refusal at_end
-states_fit kind ev (Work.Refused number) k o h = or_right (in_ranges kind (refused_state number).numbers.counters) (of_data number) h
-states_fit kind ev (Work.Search job) k o h = or_left _ _ (subst (λ (most : ℕ). FitsBelow most (path job ev k).numbers) (sym o) (path_fits job ev k))
+states_fit kind ev (Err refusal) k o h = or_right (in_ranges kind (refused_state (number_of refusal)).numbers.counters) (of_data (number_of refusal)) h
+states_fit kind ev (Ok job) k o h = or_left _ _ (subst (λ (most : ℕ). FitsBelow most (path job ev k).numbers) (sym o) (path_fits job ev k))
 
 fits : (kind n : ℕ) (block : List ℕ) → Request kind n block → (turns : ℕ) → state_fits kind (state_after (view kind n block) turns) ≡ true
 fits kind n block r turns =
@@ -69,8 +71,8 @@ fits kind n block r turns =
 
 count_fits : (ev : Evaluator) (w : Work) (k : ℕ) → (states ev w k).evaluations < 2 ^ 64
 unfolding states refused_state
-count_fits ev (Work.Refused number) k = omega arith
-count_fits ev (Work.Search job) k = let c = count_low job ev k in omega arith
+count_fits ev (Err refusal) k = omega arith
+count_fits ev (Ok job) k = let c = count_low job ev k in omega arith
 
 floats : (kind n : ℕ) (block : List ℕ) (turns : ℕ) → FloatsStorable (state_after (view kind n block) turns)
 unfolding state_after
@@ -92,8 +94,8 @@ sight_in s = record { evaluations = s.evaluations; density = s.latest }
 
 states_show : (ev : Evaluator) (w : Work) (k : ℕ) → sight_in (states ev w k) ≡ sight_of ev k (course_by w)
 unfolding states sight_of course_by refused_state
-states_show ev (Work.Refused number) k = refl
-states_show ev (Work.Search job) k =
+states_show ev (Err refusal) k = refl
+states_show ev (Ok job) k =
     unfold going in (ap seen (along job ev k)) ∙ seen_settled finite_of ev k (search_of job) 0 f0 ∙ seen_least finite_of ev (search_of job) k 0 f0
 
 shows : (kind n : ℕ) (block : List ℕ) → Request kind n block → (turns : ℕ) → sight_in (state_after (view kind n block) turns) ≡ sight kind n block turns
@@ -112,8 +114,8 @@ outcome_ended s a n e f = rw (e, f)
 
 states_end : (ev : Evaluator) (w : Work) (m : ℕ) → CourseWithin m (course_by w) → outcome_at (states ev w m) ≡ end_of ev (course_by w)
 unfolding states course_by end_of search_end going
-states_end ev (Work.Refused number) m h = unfold outcome_at result_of at_end refused_state refused_end in refl
-states_end ev (Work.Search job) m (search_within w) =
+states_end ev (Err refusal) m h = unfold outcome_at result_of at_end refused_state refused_end in refl
+states_end ev (Ok job) m (search_within w) =
     let f = finishes finite_of ev w m (le_refl m) 0 f0 in
     let a = (run finite_of ev 0 (search_of job)).answer in
     let l : left_of job (path job ev m).numbers ≡ done a = ap (λ (g : Going). g.left) (along job ev m) ∙ f.0 in

@@ -27,10 +27,10 @@ use Rattle.solver_state.specs.State.{search_of, span_of, most_rounds, going, sta
 use Rattle.solver_state.proofs.StateLaw.{step_law, begins, within_span}
 use Rattle.solver_state.proofs.Ranges.{ranges_kept, starts_in_ranges}
 use Rattle.reader.specs.declared.types.Job as Block
-use Rattle.stepping.specs.declared.types.Work.{Work}
-use Rattle.stepping.specs.declared.types.Work.TheVariants as Work
+use Rattle.std.specs.Prelude.{Ok, Err}
+use Rattle.reader.specs.Refusals.{number_of}
 use Rattle.stepping.specs.Stepping as Stepping
-use Rattle.stepping.specs.Stepping.{work_in, refused_state, start_by, uncounted, step_by}
+use Rattle.stepping.specs.Stepping.{Work, work_in, refused_state, start_by, uncounted, step_by}
 use Rattle.stepping.specs.States.{state_after}
 use Rattle.stepping.proofs.Ends.{again, begin_again, step_again}
 use Rattle.stepping.proofs.Sights.{after_last, after_most}
@@ -96,7 +96,7 @@ step_apart (CriticalPointBinaryT maxdensity z0 z1 t density) ev s = temperature_
 step_apart (CriticalPointBinaryP maxdensity z0 z1 p temperature density) ev s = pressure_apart ev s maxdensity p _
 
 -- so the stored count is the count, where that is below 2^64
-pub step_counted : (job : Job) (ev : Evaluator) (s : State) → (step_of job ev s).evaluations < 2 ^ 64 → step_by ev (Work.Search job) s ≡ step_of job ev s
+pub step_counted : (job : Job) (ev : Evaluator) (s : State) → (step_of job ev s).evaluations < 2 ^ 64 → step_by ev (Ok job) s ≡ step_of job ev s
 unfolding step_by
 step_counted job ev s h =
     let e = step_apart job ev s in
@@ -162,18 +162,18 @@ module _ (job : Job) (ev : Evaluator) where
 -- ---- the states of a job
 
 unfoldable pub states : Evaluator → Work → ℕ → State
-states ev (Work.Refused number) k = refused_state number
-states ev (Work.Search job) k = path job ev k
+states ev (Err refusal) k = refused_state (number_of refusal)
+states ev (Ok job) k = path job ev k
 
 states_step : (ev : Evaluator) (w : Work) (k : ℕ) → step_by ev w (states ev w k) ≡ states ev w (suc k)
 unfolding states path
-states_step ev (Work.Refused number) k = unfold step_by in refl
-states_step ev (Work.Search job) k = step_counted job ev (path job ev k) (let h : (step_of job ev (path job ev k)).evaluations ≤ 6204 = count_low job ev (suc k) in omega arith)
+states_step ev (Err refusal) k = unfold step_by in refl
+states_step ev (Ok job) k = step_counted job ev (path job ev k) (let h : (step_of job ev (path job ev k)).evaluations ≤ 6204 = count_low job ev (suc k) in omega arith)
 
 states_start : (ev : Evaluator) (w : Work) → start_by w ≡ states ev w 0
 unfolding states path start_by
-states_start ev (Work.Refused number) = refl
-states_start ev (Work.Search job) = refl
+states_start ev (Err refusal) = refl
+states_start ev (Ok job) = refl
 
 pub job_states : (job : Block.Job) (k : ℕ) → state_after job k ≡ states (evaluated job.blend) (work_in job) k
 unfolding state_after Stepping.start_of Stepping.step_of

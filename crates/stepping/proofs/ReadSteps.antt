@@ -4,31 +4,25 @@ use Rattle.eos.specs.declared.types.Blend.{Blend}
 use Rattle.solver.specs.Evaluated.{evaluated}
 use Rattle.reader.specs.declared.types.Job.{Job}
 use Rattle.reader.specs.declared.types.Task.{Task}
-use Rattle.reader.specs.declared.types.Task.TheVariants as Task
+use Rattle.reader.specs.declared.types.Refusal.{Refusal}
+use Rattle.std.specs.declared.result.Result.{Result}
+use Rattle.std.specs.Prelude.{Ok, Err}
 use Rattle.reader.specs.Reading.{not_refused, Reads}
 use Rattle.solver_state.specs.declared.types.State.{State}
-use Rattle.stepping.specs.declared.types.Work.{Work}
-use Rattle.stepping.specs.Stepping.{work_of, start_by, start_of, step_by, step_of}
+use Rattle.stepping.specs.Stepping.{Work, work_of, start_by, start_of, step_by, step_of}
 
 module _ (begun : Bool) (stored : State) where
   -- the step on a blend
-  abbrev step_on : Task → Blend → State
+  abbrev step_on : Result Task Refusal → Blend → State
   step_on task b = step_by (evaluated b) (work_of b task) (cond begun stored (start_by (work_of b task)))
 
-  same_step : (task : Task) (rows b : Blend) → (not_refused task ≡ true → rows ≡ b) → step_on task rows ≡ step_on task b
+  same_step : (task : Result Task Refusal) (rows b : Blend) → (not_refused task ≡ true → rows ≡ b) → step_on task rows ≡ step_on task b
   unfolding work_of start_by step_by not_refused
-  same_step (Task.Refused number) rows b h = refl
-  same_step (Task.DensityIteration t p initial) rows b h = ap (step_on (Task.DensityIteration t p initial)) (h refl)
-  same_step (Task.DensityIterationStable t p) rows b h = ap (step_on (Task.DensityIterationStable t p)) (h refl)
-  same_step (Task.PressureSpinodal t start) rows b h = ap (step_on (Task.PressureSpinodal t start)) (h refl)
-  same_step (Task.PressureSpinodalBranch t branch) rows b h = ap (step_on (Task.PressureSpinodalBranch t branch)) (h refl)
-  same_step (Task.CriticalPoint t density) rows b h = ap (step_on (Task.CriticalPoint t density)) (h refl)
-  same_step (Task.Spinodal t) rows b h = ap (step_on (Task.Spinodal t)) (h refl)
-  same_step (Task.CriticalPointBinaryT t density) rows b h = ap (step_on (Task.CriticalPointBinaryT t density)) (h refl)
-  same_step (Task.CriticalPointBinaryP p t density) rows b h = ap (step_on (Task.CriticalPointBinaryP p t density)) (h refl)
+  same_step (Err refusal) rows b h = refl
+  same_step (Ok task) rows b h = ap (step_on (Ok task)) (h refl)
 
-  pub step_read : (job : Job) (task : Task) (rows blend : Blend) (w : Work) (from r : State) → Reads job task rows → blend ≡ rows → w ≡ work_of blend task
+  pub step_read : (job : Job) (task : Result Task Refusal) (rows blend : Blend) (w : Work) (from r : State) → Reads job task rows → blend ≡ rows → w ≡ work_of blend task
       → from ≡ cond begun stored (start_by w) → r ≡ step_by (evaluated blend) w from → r ≡ step_of job (cond begun stored (start_of job))
   unfolding step_of start_of
   step_read job task rows blend w from r h eb ew ef er =
-      er ∙ rw (ef, ew, eb) (same_step task rows job.blend h.1 ∙ ap (λ (t : Task). step_on t job.blend) h.0)
+      er ∙ rw (ef, ew, eb) (same_step task rows job.blend h.1 ∙ ap (λ (t : Result Task Refusal). step_on t job.blend) h.0)

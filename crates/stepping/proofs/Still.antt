@@ -11,10 +11,9 @@ use Rattle.solver_state.specs.declared.types.Job.TheVariants.{Density, StableDen
 use Rattle.solver_state.specs.declared.types.State.{State}
 use Rattle.solver_state.specs.State.{density_step, stable_step, spinodal_step, branch_step, critical_step, spinodals_step, temperature_step, pressure_step, step_of}
 use Rattle.reader.specs.declared.types.Job as Block
-use Rattle.stepping.specs.declared.types.Work.{Work}
-use Rattle.stepping.specs.declared.types.Work.TheVariants as Work
+use Rattle.std.specs.Prelude.{Ok, Err}
 use Rattle.stepping.specs.Stepping as Stepping
-use Rattle.stepping.specs.Stepping.{work_in, step_by, at_end}
+use Rattle.stepping.specs.Stepping.{Work, work_in, step_by, at_end}
 use Rattle.stepping.proofs.Paths.{step_counted}
 
 search_still : (job : Job) (ev : Evaluator) (s : State) → eqb s.numbers.counters.stage 0 ≡ true → eqb s.numbers.counters.tag 0 ≡ true → step_of job ev s ≡ s
@@ -29,8 +28,8 @@ search_still (CriticalPointBinaryT maxdensity z0 z1 θ density) ev s g t = rw t
 search_still (CriticalPointBinaryP maxdensity z0 z1 p temperature density) ev s g t = rw t
 
 work_still : (ev : Evaluator) (w : Work) (s : State) → eqb s.numbers.counters.stage 0 ≡ true → eqb s.numbers.counters.tag 0 ≡ true → s.evaluations < 2 ^ 64 → step_by ev w s ≡ s
-work_still ev (Work.Refused number) s g t h = unfold step_by in refl
-work_still ev (Work.Search job) s g t h =
+work_still ev (Err refusal) s g t h = unfold step_by in refl
+work_still ev (Ok job) s g t h =
     let e = search_still job ev s g t in
     step_counted job ev s (subst (λ (x : State). x.evaluations < 2 ^ 64) (sym e) h) ∙ e
 

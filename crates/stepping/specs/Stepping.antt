@@ -1,5 +1,5 @@
 -- A job of a request block, one evaluation at a time: its first state, its step, the range of a stored state, and its end. Definitions only.
-use Rattle.std.specs.Prelude.{ℕ, ◌+◌, ◌%◌, ◌^◌, Bool, cond, ◌&&◌, ◌||◌, ◌==◌}
+use Rattle.std.specs.Prelude.{ℕ, ◌+◌, ◌%◌, ◌^◌, Bool, cond, ◌&&◌, ◌||◌, ◌==◌, Ok, Err}
 use Rattle.float.specs.Ops.{f0}
 use Rattle.eos.specs.declared.types.Blend.{Blend}
 use Rattle.eos.specs.Cubic.{nth, max_density}
@@ -9,27 +9,36 @@ use Rattle.solver.specs.Evaluated.{evaluated}
 use Rattle.solver.specs.Stored.{in_ranges}
 use Rattle.solver_density.specs.Density.{conditions_of}
 use Rattle.solver_state.specs.declared.types.State.{State}
+use Rattle.solver_state.specs.declared.types.Job as Search
 use Rattle.solver_state.specs.declared.types.Job.TheVariants as Search
 use Rattle.solver_state.specs.State as Steps
 use Rattle.reader.specs.declared.types.Job.{Job}
 use Rattle.reader.specs.declared.types.Task.{Task}
+use Rattle.reader.specs.declared.types.Refusal.{Refusal}
+use Rattle.std.specs.declared.result.Result.{Result}
 use Rattle.reader.specs.declared.types.Task.TheVariants as Task
+use Rattle.reader.specs.Refusals.{number_of}
 use Rattle.reader.specs.View.{of_data}
-use Rattle.stepping.specs.declared.types.Work.{Work}
-use Rattle.stepping.specs.declared.types.Work.TheVariants as Work
 use Rattle.stepping.specs.declared.types.Ended.{Ended}
 
+-- the search that a job makes, or what it is refused by
+abbrev pub Work : Type 0
+Work = Result Search.Job Refusal
+
 -- the search that a task makes, from its blend's maximum density, and in kinds 8 and 9 from its fractions
-unfoldable pub work_of : Blend → Task → Work
-work_of blend (Task.Refused number) = Work.Refused number
-work_of blend (Task.DensityIteration t p initial) = Work.Search (Search.Density (conditions_of (max_density blend) t p initial))
-work_of blend (Task.DensityIterationStable t p) = Work.Search (Search.StableDensity (max_density blend) t p)
-work_of blend (Task.PressureSpinodal t start) = Work.Search (Search.PressureSpinodal (max_density blend) t start)
-work_of blend (Task.PressureSpinodalBranch t branch) = Work.Search (Search.BranchSpinodal (max_density blend) t branch)
-work_of blend (Task.CriticalPoint t density) = Work.Search (Search.CriticalPoint (max_density blend) t density)
-work_of blend (Task.Spinodal t) = Work.Search (Search.StabilitySpinodals (max_density blend) t)
-work_of blend (Task.CriticalPointBinaryT t density) = Work.Search (Search.CriticalPointBinaryT (max_density blend) (nth blend.x 0) (nth blend.x 1) t density)
-work_of blend (Task.CriticalPointBinaryP p t density) = Work.Search (Search.CriticalPointBinaryP (max_density blend) (nth blend.x 0) (nth blend.x 1) p t density)
+unfoldable pub task_search : Blend → Task → Search.Job
+task_search blend (Task.DensityIteration t p initial) = Search.Density (conditions_of (max_density blend) t p initial)
+task_search blend (Task.DensityIterationStable t p) = Search.StableDensity (max_density blend) t p
+task_search blend (Task.PressureSpinodal t start) = Search.PressureSpinodal (max_density blend) t start
+task_search blend (Task.PressureSpinodalBranch t branch) = Search.BranchSpinodal (max_density blend) t branch
+task_search blend (Task.CriticalPoint t density) = Search.CriticalPoint (max_density blend) t density
+task_search blend (Task.Spinodal t) = Search.StabilitySpinodals (max_density blend) t
+task_search blend (Task.CriticalPointBinaryT t density) = Search.CriticalPointBinaryT (max_density blend) (nth blend.x 0) (nth blend.x 1) t density
+task_search blend (Task.CriticalPointBinaryP p t density) = Search.CriticalPointBinaryP (max_density blend) (nth blend.x 0) (nth blend.x 1) p t density
+
+unfoldable pub work_of : Blend → Result Task Refusal → Work
+work_of blend (Ok task) = Ok (task_search blend task)
+work_of blend (Err refusal) = Err refusal
 
 abbrev pub work_in : Job → Work
 work_in job = work_of job.blend job.task
@@ -46,8 +55,8 @@ refused_state number = record {
 }
 
 unfoldable pub start_by : Work → State
-start_by (Work.Refused number) = refused_state number
-start_by (Work.Search job) = Steps.start_of job
+start_by (Err refusal) = refused_state (number_of refusal)
+start_by (Ok job) = Steps.start_of job
 
 unfoldable pub start_of : Job → State
 start_of job = start_by (work_in job)
@@ -61,8 +70,8 @@ counted n s = record { numbers = s.numbers; evaluations = (n + s.evaluations) % 
 
 -- one evaluation and one more counted, or none at an end
 unfoldable pub step_by : Evaluator → Work → State → State
-step_by ev (Work.Refused number) s = s
-step_by ev (Work.Search job) s = counted s.evaluations (Steps.step_of job ev (uncounted s))
+step_by ev (Err refusal) s = s
+step_by ev (Ok job) s = counted s.evaluations (Steps.step_of job ev (uncounted s))
 
 unfoldable pub step_of : Job → State → State
 step_of job s = step_by (evaluated job.blend) (work_in job) s

@@ -5,7 +5,7 @@ ghost use Rattle.stepping.specs.States.{state_after, outcome_at};
 
 use crate::jobs::{result, start, step};
 use reader::Job;
-use records::{Answered, Outcome};
+use records::{Outcome, Unanswered};
 use solver_state::State;
 
 // The state of a job after this many turns.
@@ -13,15 +13,14 @@ pub fn after(job: Job, turns: u64) -> State
     ensures { result ≡ state_after job turns }
 {
     let mut state = start(job);
-    let mut k = 0;
-    while k < turns {
+    for _ in 0..turns {
         state = step(job, state);
-        k = k + 1;
     }
     state
 }
 
 // What the record states of a state.
+#[tactic(auto, unfolding(crate::specs::States::outcome_at))]
 pub fn outcome(state: State) -> Outcome
     ensures { result ≡ outcome_at state }
 {
@@ -35,23 +34,12 @@ pub fn outcome(state: State) -> Outcome
 }
 
 // Makes a request's job step by step to its span and writes the sealed part of the record, bytes 16 to 63. A refusal changes nothing.
-pub fn answer(kind: u64, n: u64, block: &[u8], record: &mut [u8]) -> Answered
+pub fn answer(kind: u64, n: u64, block: &[u8], record: &mut [u8]) -> Result<(), Unanswered>
     ensures { (result ≡ (answered kind n block.now «record».old).answer) × («record».new ≡ (answered kind n block.now «record».old).bytes) }
 {
-    if !schedule::kind_fits(kind) {
-        return Answered::BadKind;
-    }
-    if !schedule::count_fits(kind, n) {
-        return Answered::BadCount;
-    }
-    if block.len() != 640 {
-        return Answered::BadBlockLength;
-    }
-    if record.len() < 64 {
-        return Answered::ShortRecord;
-    }
+    records::fits(kind, n, block, record)?;
     let job = reader::view(kind, n, block);
     let state = after(job, schedule::span_of(kind));
     records::write_sealed(record, outcome(state));
-    Answered::Written
+    Ok(())
 }

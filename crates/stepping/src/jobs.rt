@@ -2,82 +2,81 @@
 ghost use Rattle.std.specs.Prelude.{◌≡◌, if◌then◌else◌};
 ghost use Rattle.reader.specs.View.{view};
 ghost use Rattle.solver.specs.Evaluated.{evaluated};
-ghost use Rattle.stepping.specs.Stepping.{work_of, refused_state, start_by, start_of, step_by, step_of, at_end, data_refusal, counters_fit, result_of};
+ghost use Rattle.stepping.specs.Stepping.{task_search, work_of, refused_state, start_by, start_of, step_by, step_of, at_end, data_refusal, counters_fit, result_of};
 
 use crate::types::{Ended, Work};
 use eos::Blend;
-use reader::{Job, Task, of_data};
+use reader::{Job, Refusal, Task, of_data};
 use solver::{Counters, Numbers, Values};
 use solver_state::State;
 
-fn work(blend: Blend, task: Task) -> Work
-    ensures { result ≡ work_of blend task }
+#[tactic(auto, unfolding(crate::specs::Stepping::task_search))]
+fn search(blend: Blend, task: Task) -> solver_state::Job
+    ensures { result ≡ task_search blend task }
 {
     let maxdensity = eos::compute_max_density(blend);
     let z0 = blend.x[0];
     let z1 = blend.x[1];
     match task {
-        Task::Refused(number) => Work::Refused(number),
         Task::DensityIteration(temperature, pressure, initial) => {
             let c = solver_density::conditions(maxdensity, temperature, pressure, initial);
-            Work::Search(solver_state::Job::Density(c))
+            solver_state::Job::Density(c)
         }
-        Task::DensityIterationStable(temperature, pressure) => {
-            Work::Search(solver_state::Job::StableDensity {
-                maxdensity,
-                temperature,
-                pressure,
-            })
-        }
-        Task::PressureSpinodal(temperature, start) => {
-            Work::Search(solver_state::Job::PressureSpinodal {
-                maxdensity,
-                temperature,
-                start,
-            })
-        }
-        Task::PressureSpinodalBranch(temperature, branch) => {
-            Work::Search(solver_state::Job::BranchSpinodal {
-                maxdensity,
-                temperature,
-                branch,
-            })
-        }
-        Task::CriticalPoint(temperature, density) => {
-            Work::Search(solver_state::Job::CriticalPoint {
-                maxdensity,
-                temperature,
-                density,
-            })
-        }
-        Task::Spinodal(temperature) => {
-            Work::Search(solver_state::Job::StabilitySpinodals {
-                maxdensity,
-                temperature,
-            })
-        }
-        Task::CriticalPointBinaryT(temperature, density) => {
-            Work::Search(solver_state::Job::CriticalPointBinaryT {
+        Task::DensityIterationStable(temperature, pressure) => solver_state::Job::StableDensity {
+            maxdensity,
+            temperature,
+            pressure,
+        },
+        Task::PressureSpinodal(temperature, start) => solver_state::Job::PressureSpinodal {
+            maxdensity,
+            temperature,
+            start,
+        },
+        Task::PressureSpinodalBranch(temperature, branch) => solver_state::Job::BranchSpinodal {
+            maxdensity,
+            temperature,
+            branch,
+        },
+        Task::CriticalPoint(temperature, density) => solver_state::Job::CriticalPoint {
+            maxdensity,
+            temperature,
+            density,
+        },
+        Task::Spinodal(temperature) => solver_state::Job::StabilitySpinodals {
+            maxdensity,
+            temperature,
+        },
+        Task::CriticalPointBinaryT(temperature, density) =>
+            solver_state::Job::CriticalPointBinaryT {
                 maxdensity,
                 z0,
                 z1,
                 temperature,
                 density,
-            })
-        }
-        Task::CriticalPointBinaryP(pressure, temperature, density) => {
-            Work::Search(solver_state::Job::CriticalPointBinaryP {
+            },
+        Task::CriticalPointBinaryP(pressure, temperature, density) =>
+            solver_state::Job::CriticalPointBinaryP {
                 maxdensity,
                 z0,
                 z1,
                 pressure,
                 temperature,
                 density,
-            })
-        }
+            },
     }
 }
 
+#[tactic(auto, unfolding(crate::specs::Stepping::work_of))]
+fn work(blend: Blend, task: Result<Task, Refusal>) -> Work
+    ensures { result ≡ work_of blend task }
+{
+    match task {
+        Ok(task) => Ok(search(blend, task)),
+        Err(refusal) => Err(refusal),
+    }
+}
+
+#[tactic(auto, unfolding(crate::specs::Stepping::refused_state))]
 fn refused(number: u64) -> State
     ensures { result ≡ refused_state number }
 {
@@ -101,12 +100,13 @@ fn refused(number: u64) -> State
     }
 }
 
+#[tactic(auto, unfolding(crate::specs::Stepping::start_by))]
 fn start_by(work: Work) -> State
     ensures { result ≡ start_by work }
 {
     match work {
-        Work::Refused(number) => refused(number),
-        Work::Search(job) => solver_state::start(job),
+        Ok(job) => solver_state::start(job),
+        Err(refusal) => refused(u64::from(refusal)),
     }
 }
 
@@ -123,8 +123,8 @@ fn step_by(blend: Blend, work: Work, state: State) -> State
     ensures { result ≡ step_by (evaluated blend) work state }
 {
     match work {
-        Work::Refused(_) => state,
-        Work::Search(job) => {
+        Err(_) => state,
+        Ok(job) => {
             // counted from 0 and added afterwards: a stored count may be any number of eight bytes
             let numbers = state.numbers;
             let uncounted = State {
@@ -189,41 +189,29 @@ pub fn step_request(kind: u64, n: u64, block: &[u8], begun: bool, stored: State)
 }
 
 // Whether a search has ended, so that no step leads on.
+#[tactic(auto, unfolding(crate::specs::Stepping::at_end))]
 pub fn at_end(counters: Counters) -> bool
     ensures { result ≡ at_end counters }
 {
-    if counters.stage != 0 {
-        return false;
-    }
-    counters.tag == 0
+    counters.stage == 0 && counters.tag == 0
 }
 
+#[tactic(auto, unfolding(crate::specs::Stepping::data_refusal))]
 fn data_refusal(counters: Counters) -> bool
     ensures { result ≡ data_refusal counters }
 {
-    if !at_end(counters) {
-        return false;
-    }
-    if counters.left != 0 {
-        return false;
-    }
-    if counters.way != 0 {
-        return false;
-    }
-    if counters.rounds != 0 {
-        return false;
-    }
-    of_data(counters.status)
+    at_end(counters)
+        && counters.left == 0
+        && counters.way == 0
+        && counters.rounds == 0
+        && of_data(counters.status)
 }
 
 // Whether stored counters are in their ranges: those of the kind's search, or a data refusal's.
 pub fn counters_fit(kind: u64, counters: Counters) -> bool
     ensures { result ≡ counters_fit kind counters }
 {
-    if solver::in_ranges(kind, counters) {
-        return true;
-    }
-    data_refusal(counters)
+    solver::in_ranges(kind, counters) || data_refusal(counters)
 }
 
 // How a job ended.

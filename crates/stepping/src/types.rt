@@ -1,12 +1,9 @@
 // What a job does turn by turn, and how it stands at its end.
+use reader::Refusal;
 use solver::Values;
 
-// A job refused by its data, or the search that it makes.
-#[derive(Clone, Copy)]
-pub enum Work {
-    Refused(u64),
-    Search(solver_state::Job),
-}
+// The search that a job makes, or what it is refused by.
+pub type Work = Result<solver_state::Job, Refusal>;
 
 // How a job ended: the status and the floats of its record.
 #[derive(Clone, Copy)]

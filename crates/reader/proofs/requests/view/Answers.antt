@@ -3,10 +3,10 @@ use mathlib.Core.Path.{sym, ◌∙◌}
 use Rattle.reader.proofs.ViewLaws.{view_not_refused, view_refused, not_refused_left}
 use Rattle.reader.proofs.requests.view.Goals as goal
 
-pub returns-in_default : goal.returns-in_default
-returns-in_default c =
-    let r = c.read-task.ensures in
-    view_not_refused _ _ _ _ _ _ r.0 (r.1 (not_refused_left _ c.in_default.not-Refused)) (rw c.searched_count.ensures at c.blend-blend.ensures)
+pub returns-in-Err : goal.returns-in-Err
+returns-in-Err c = c.refused.ensures ∙ view_refused _ _ _ _ (sym c.in-Err.is ∙ c.read-task.ensures.0)
 
 pub returns : goal.returns
-returns c = c.refused.ensures ∙ view_refused _ _ _ _ (sym c.in-Refused.is ∙ c.read-task.ensures.0)
+returns c =
+    let r = c.read-task.ensures in
+    view_not_refused _ _ _ _ _ _ r.0 (r.1 (not_refused_left _ c.in_default.not-Err)) (rw c.searched_count.ensures at c.blend-blend.ensures)

@@ -2,10 +2,10 @@
 use Rattle.stepping.specs.Stepping.{step_by}
 use Rattle.stepping.proofs.jobs.step_by.Goals as goal
 
-pub returns-in-Refused : goal.returns-in-Refused
+pub returns-in-Err : goal.returns-in-Err
 unfolding step_by
-returns-in-Refused c = rw c.in-Refused.is
+returns-in-Err c = rw c.in-Err.is
 
-pub returns-in-Search : goal.returns-in-Search
+pub returns-in-Ok : goal.returns-in-Ok
 unfolding step_by
-returns-in-Search c = rw (c.in-Search.is, ← c.step-next.ensures, ← c.wrapping_add_u64.ensures.value)
+returns-in-Ok c = rw (c.in-Ok.is, ← c.step-next.ensures, ← c.wrapping_add_u64.ensures.value)
