@@ -1,12 +1,13 @@
 // The test behind 6: every stored number of a quarter is in its range.
-ghost use Rattle.std.specs.Prelude.{◌≡◌, ◌<◌, ◌≤◌, length};
+ghost use Rattle.std.specs.Prelude.{◌≡◌, ◌<◌, ◌≤◌};
 ghost use Rattle.board_spec.specs.Quarter.{slot_fits, slots_fit, running_fits, quarter_fits};
 
+use crate::bytes::Quarter;
 use crate::jobs::{first_kind, first_ticket};
 use crate::state::load_counters;
 
-fn slot_fits(q: &[u8], slot: usize) -> bool
-    requires { (length q.now ≡ 6144) × (slot < 8) }
+fn slot_fits(q: &Quarter, slot: usize) -> bool
+    requires { slot < 8 }
     ensures { result ≡ slot_fits q.now slot }
 {
     let kind = buf::get_u64(q, 128 + 16 * slot);
@@ -17,25 +18,23 @@ fn slot_fits(q: &[u8], slot: usize) -> bool
 }
 
 // The slots of so many jobs from this ticket on, one after another.
-fn each_slot_fits(q: &[u8], ticket: u64, count: u64) -> bool
-    requires { (length q.now ≡ 6144) × (count ≤ 8) }
+fn each_slot_fits(q: &Quarter, ticket: u64, count: u64) -> bool
+    requires { count ≤ 8 }
     ensures { result ≡ slots_fit q.now ticket count }
 {
     let first = ticket % 8;
-    let mut i: u64 = 0;
-    while i < count {
+    for i in 0..count {
         if !slot_fits(q, ((first + i) % 8) as usize) {
             return false;
         }
-        i += 1;
     }
     true
 }
 
 // The same. All eight slots are tried first, also those of jobs that have left: a loop of eight without a start is made straight
 // code, and each call tests the slots of four queues.
-fn slots_fit(q: &[u8], ticket: u64, count: u64) -> bool
-    requires { (length q.now ≡ 6144) × (count ≤ 8) }
+fn slots_fit(q: &Quarter, ticket: u64, count: u64) -> bool
+    requires { count ≤ 8 }
     ensures { result ≡ slots_fit q.now ticket count }
 {
     if each_slot_fits(q, 0, 8) {
@@ -45,8 +44,7 @@ fn slots_fit(q: &[u8], ticket: u64, count: u64) -> bool
 }
 
 // The running search, where the first job has had a turn.
-fn running_fits(q: &[u8]) -> bool
-    requires { length q.now ≡ 6144 }
+fn running_fits(q: &Quarter) -> bool
     ensures { result ≡ running_fits q.now }
 {
     if buf::get_u64(q, 8) < 1 {
@@ -60,8 +58,7 @@ fn running_fits(q: &[u8]) -> bool
     stepping::counters_fit(kind, load_counters(q))
 }
 
-pub fn quarter_fits(q: &[u8]) -> bool
-    requires { length q.now ≡ 6144 }
+pub fn quarter_fits(q: &Quarter) -> bool
     ensures { result ≡ quarter_fits q.now }
 {
     let held = buf::get_u64(q, 8);

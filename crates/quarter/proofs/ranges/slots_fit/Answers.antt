@@ -5,6 +5,3 @@ use Rattle.quarter.proofs.ranges.slots_fit.Goals as goal
 
 pub returns-then-each_slot_fits : goal.returns-then-each_slot_fits
 returns-then-each_slot_fits c = sym (eight_slots _ (sym c.each_slot_fits.ensures ∙ c.if-each_slot_fits.true) _ _)
-
-pub returns : goal.returns
-returns c = c.each_slot_fits-2.ensures
