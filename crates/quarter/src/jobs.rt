@@ -42,6 +42,7 @@ pub fn step_first(q: &Quarter, begun: bool, stored: State) -> State
     stepping::step_request(kind, n, &q[from..end], begun, stored)
 }
 
+#[tactic(auto, unfolding(board_spec::specs::Quarter::put_job))]
 fn put_job(q: &mut Quarter, slot: usize, kind: u64, n: u64, block: &Block)
     requires { slot < 8 }
     ensures { q.new ≡ put_job q.old slot kind n block.now }
@@ -52,6 +53,7 @@ fn put_job(q: &mut Quarter, slot: usize, kind: u64, n: u64, block: &Block)
 }
 
 // Adds a job and returns its ticket.
+#[tactic(auto, unfolding(board_spec::specs::Quarter::submit_quarter))]
 pub fn submit_quarter(q: &mut Quarter, kind: u64, n: u64, block: &Block) -> u64
     requires { u64_at q.old held_at < 8 }
     ensures { (result ≡ u64_at q.old accepted_at) × (q.new ≡ submit_quarter q.old kind n block.now) }

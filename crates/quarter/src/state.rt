@@ -6,6 +6,7 @@ use crate::bytes::Quarter;
 use solver::{Counters, Numbers, Values};
 use solver_state::State;
 
+#[tactic(auto, unfolding(board_spec::specs::Quarter::load_counters))]
 pub fn load_counters(q: &Quarter) -> Counters
     ensures { result ≡ load_counters q.now }
 {
@@ -25,6 +26,7 @@ pub fn load_counters(q: &Quarter) -> Counters
     }
 }
 
+#[tactic(auto, unfolding(board_spec::specs::Quarter::load_values))]
 fn load_values(q: &Quarter) -> Values
     ensures { result ≡ load_values q.now }
 {
@@ -38,6 +40,7 @@ fn load_values(q: &Quarter) -> Values
     }
 }
 
+#[tactic(auto, unfolding(board_spec::specs::Quarter::load_state))]
 pub fn load_state(q: &Quarter) -> State
     ensures { result ≡ load_state q.now }
 {
@@ -53,6 +56,7 @@ pub fn load_state(q: &Quarter) -> State
     }
 }
 
+#[tactic(auto, unfolding(board_spec::specs::Quarter::store_counters))]
 fn store_counters(q: &mut Quarter, counters: Counters)
     ensures { q.new ≡ store_counters q.old counters }
 {
@@ -64,6 +68,7 @@ fn store_counters(q: &mut Quarter, counters: Counters)
     buf::put_u64(q, 64, counters.rounds);
 }
 
+#[tactic(auto, unfolding(board_spec::specs::Quarter::store_values))]
 fn store_values(q: &mut Quarter, values: Values)
     ensures { q.new ≡ store_values q.old values }
 {
@@ -72,6 +77,7 @@ fn store_values(q: &mut Quarter, values: Values)
     buf::put_f64(q, 88, values.third);
 }
 
+#[tactic(auto, unfolding(board_spec::specs::Quarter::store_state))]
 pub fn store_state(q: &mut Quarter, state: State)
     ensures { q.new ≡ store_state q.old state }
 {

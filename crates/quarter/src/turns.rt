@@ -36,6 +36,7 @@ fn kept_state(q: &Quarter) -> State
 }
 
 // The job stays, one turn further.
+#[tactic(auto, unfolding(board_spec::specs::Quarter::kept_quarter))]
 fn keep(q: &mut Quarter)
     requires { u64_at q.old turns_at + 1 < 2 ^ 64 }
     ensures { q.new ≡ kept_quarter q.old }
@@ -47,6 +48,7 @@ fn keep(q: &mut Quarter)
 }
 
 // The job leaves.
+#[tactic(auto, unfolding(board_spec::specs::Quarter::freed_quarter))]
 fn free(q: &mut Quarter)
     requires { 1 ≤ u64_at q.old held_at }
     ensures { q.new ≡ freed_quarter q.old }
