@@ -1,20 +1,19 @@
 -- What the code of a quarter does, over plain values: its tickets, its slots, its jobs and its turns. Assumes nothing.
-use Rattle.std.proofs.Common.{◌≡◌, ℕ, zero, suc, ◌+◌, ◌-◌, ◌*◌, ◌%◌, ◌^◌, ◌<◌, ◌≤◌, Bool, true, false, cond, not, ◌&&◌, eqb, ltb, leb, List, take, drop, sym, refl, ap, ◌∙◌, arith, ltb-true, le-ltb, lt-ltb, eq-eqb, ne_eqb, eqb-true, le-leb}
-use borrow.Author.Tests.{lt-leb, eqb-false, not-true}
-use Rattle.buf.specs.Bytes.{splice, u64_at, put_u64}
+use Rattle.std.proofs.Common.{◌≡◌, ℕ, zero, suc, ◌+◌, ◌-◌, ◌*◌, ◌%◌, ◌^◌, ◌<◌, ◌≤◌, Bool, true, false, cond, not, ◌&&◌, eqb, ltb, leb, List, take, drop, sym, refl, ap, ◌∙◌, arith, ltb-true, eq-eqb, ne_eqb, eqb-true}
+use borrow.Author.Tests.{eqb-false, not-true}
+use Rattle.buf.specs.Bytes.{splice, u64_at}
 use Rattle.buf.proofs.Laws.{num_at_lt, lent_part}
 use Rattle.reader.specs.View.{view}
 use Rattle.records.specs.declared.types.Outcome.{Outcome}
 use Rattle.records.specs.Record.{record_bytes}
 use Rattle.schedule.specs.Spans.{span_of}
 use Rattle.schedule.proofs.Tests.{left_true, right_true, span_within}
-use Rattle.solver.specs.declared.types.Counters.{Counters}
 use Rattle.solver_state.specs.declared.types.State.{State}
-use Rattle.stepping.specs.Stepping.{start_of, step_of, at_end, counters_fit, state_fits}
+use Rattle.stepping.specs.Stepping.{start_of, step_of, at_end}
 use Rattle.stepping.proofs.Still.{still}
 use Rattle.stepping.specs.States.{outcome_at}
 use Rattle.board_spec.specs.Layout.{accepted_at, held_at, turns_at, evaluations_at, kind_at}
-use Rattle.board_spec.specs.Quarter.{first_ticket, first_slot, first_kind, first_job, slot_of, slot_fits, slots_fit, load_counters, load_state, running_fits, quarter_fits, spans_from, turns_left, put_job, submit_quarter, state_of, stepped_of, kept_quarter, freed_quarter, turn_quarter}
+use Rattle.board_spec.specs.Quarter.{first_ticket, first_slot, first_kind, first_job, slot_of, slot_fits, slots_fit, load_counters, load_state, running_fits, quarter_fits, spans_from, turns_left, state_of, stepped_of, kept_quarter, freed_quarter, turn_quarter}
 use Rattle.board_spec.proofs.Tested.{quarter_tested}
 
 -- ---- the first job
@@ -43,12 +42,6 @@ pub job_stepped : (q : List ℕ) (slot kind n : ℕ) (begun : Bool) (stored s : 
 job_stepped q slot kind n begun stored s es ek en e = e ∙ rw (job_seen q slot kind n es ek en)
 
 -- ---- the slots of the jobs held, one after another
-
-pub slots_begin : (q : List ℕ) (ticket count : ℕ) → slots_fit q (ticket + 0) (count - 0) ≡ slots_fit q ticket count
-slots_begin q ticket count =
-    let e : ticket + 0 ≡ ticket = omega arith in
-    let f : count - 0 ≡ count = omega arith in
-    rw (e, f)
 
 slots_step : (q : List ℕ) (t k : ℕ) → slots_fit q t (suc k) ≡ (slot_fits q (slot_of t) && slots_fit q (t + 1) k)
 unfolding slots_fit
@@ -148,52 +141,6 @@ module _ (q : List ℕ) (held ticket spans turns : ℕ) (f : quarter_fits q ≡ 
   pub turns_left_lem : spans ≤ 6204 * held → (spans - turns ≡ turns_left q) × (spans - turns ≤ 49632)
   unfolding turns_left
   turns_left_lem h = (rw (← all, ← et), omega (arith, held_few q held f eh))
-
--- ---- a job is added
-
-pub job_added : (q q₁ q₂ q₃ : List ℕ) (kind n : ℕ) (block : List ℕ) (ticket held next : ℕ) → ticket ≡ u64_at q accepted_at → held ≡ u64_at q held_at
-    → next ≡ (ticket + 1) % 2 ^ 64 → q₁ ≡ put_job q (ticket % 8) kind n block → q₂ ≡ put_u64 q₁ accepted_at next → q₃ ≡ put_u64 q₂ held_at (held + 1)
-    → (ticket ≡ u64_at q accepted_at) × (q₃ ≡ submit_quarter q kind n block)
-unfolding submit_quarter
-job_added q q₁ q₂ q₃ kind n block ticket held next et eh en e₁ e₂ e₃ = (et, rw (e₃, e₂, en, e₁, et, eh))
-
--- ---- the running search
-
-pub running_none : (q : List ℕ) (held : ℕ) → held ≡ u64_at q held_at → held < 1 → false ≡ running_fits q
-unfolding running_fits
-running_none q held eh h = rw (← eh, lt-leb _ _ h)
-
-module _ (q : List ℕ) (held turns kind span : ℕ) (eh : held ≡ u64_at q held_at) (h : 1 ≤ held) (et : turns ≡ u64_at q turns_at) (ek : kind ≡ first_kind q) (es : span ≡ span_of kind) where
-  running_by : running_fits q ≡ (ltb turns span && state_fits kind (load_state q))
-  unfolding running_fits
-  running_by = rw (← eh, le-leb _ _ h, ← et, ← ek, ← es)
-
-  pub running_late : span ≤ turns → false ≡ running_fits q
-  running_late l = sym (running_by ∙ rw (le-ltb _ _ l))
-
-  pub running_state : (c : Counters) (r : Bool) → turns < span → c ≡ load_counters q → r ≡ counters_fit kind c → r ≡ running_fits q
-  unfolding state_fits load_state
-  running_state c r l e er = sym (running_by ∙ rw (lt-ltb _ _ l, ← e, ← er))
-
--- ---- the whole quarter
-
-pub quarter_many : (q : List ℕ) (held : ℕ) → held ≡ u64_at q held_at → 8 < held → false ≡ quarter_fits q
-unfolding quarter_fits
-quarter_many q held eh h = rw (← eh, lt-leb _ _ h)
-
-module _ (q : List ℕ) (held : ℕ) (eh : held ≡ u64_at q held_at) (h : held ≤ 8) (ticket : ℕ) (ok : Bool) (et : ticket ≡ first_ticket q) (eo : ok ≡ slots_fit q ticket held) where
-  fits_by : quarter_fits q ≡ (ok && cond (eqb (u64_at q turns_at) 0) true (running_fits q))
-  unfolding quarter_fits
-  fits_by = rw (← eh, le-leb _ _ h, ← et, ← eo)
-
-  pub quarter_slots : ok ≡ false → false ≡ quarter_fits q
-  quarter_slots e = sym (fits_by ∙ rw e)
-
-  pub quarter_waits : ok ≡ true → (turns : ℕ) → turns ≡ u64_at q turns_at → turns ≡ 0 → true ≡ quarter_fits q
-  quarter_waits e turns eu z = sym (fits_by ∙ rw (e, ← eu, z))
-
-  pub quarter_runs : ok ≡ true → (turns : ℕ) → turns ≡ u64_at q turns_at → (turns ≡ 0 → ⊥) → (r : Bool) → r ≡ running_fits q → r ≡ quarter_fits q
-  quarter_runs e turns eu n r er = sym (fits_by ∙ rw (e, ← eu, ne_eqb _ _ n, ← er))
 
 -- a quarter in range counts few turns
 running_low : (q : List ℕ) → running_fits q ≡ true → u64_at q turns_at < 6204

@@ -1,15 +1,15 @@
 // The jobs that a quarter holds: the first one, and one that is added. A job stands in the slot of its ticket modulo 8.
-ghost use Rattle.std.specs.Prelude.{◌≡◌, ◌<◌, length, if◌then◌else◌};
+ghost use Rattle.std.specs.Prelude.{◌≡◌, ◌<◌, if◌then◌else◌};
 ghost use Rattle.buf.specs.Bytes.{u64_at};
 ghost use Rattle.board_spec.specs.Layout.{accepted_at, held_at};
 ghost use Rattle.stepping.specs.Stepping.{start_of, step_of};
 ghost use Rattle.board_spec.specs.Quarter.{first_ticket, first_slot, first_kind, first_job, put_job, submit_quarter};
 
+use crate::bytes::{Block, Quarter};
 use solver_state::State;
 
 // The ticket of the first job: as many below the next one's as jobs are held, modulo 2^64.
-pub fn first_ticket(q: &[u8]) -> u64
-    requires { length q.now ≡ 6144 }
+pub fn first_ticket(q: &Quarter) -> u64
     ensures { result ≡ first_ticket q.now }
 {
     let accepted = buf::get_u64(q, 0);
@@ -17,15 +17,13 @@ pub fn first_ticket(q: &[u8]) -> u64
     std::num::wrapping_sub_u64(accepted, held)
 }
 
-fn first_slot(q: &[u8]) -> usize
-    requires { length q.now ≡ 6144 }
+fn first_slot(q: &Quarter) -> usize
     ensures { (result ≡ first_slot q.now) × (result < 8) }
 {
     (first_ticket(q) % 8) as usize
 }
 
-pub fn first_kind(q: &[u8]) -> u64
-    requires { length q.now ≡ 6144 }
+pub fn first_kind(q: &Quarter) -> u64
     ensures { result ≡ first_kind q.now }
 {
     let slot = first_slot(q);
@@ -33,8 +31,7 @@ pub fn first_kind(q: &[u8]) -> u64
 }
 
 // A step of the first job, from its first state or from a stored one.
-pub fn step_first(q: &[u8], begun: bool, stored: State) -> State
-    requires { length q.now ≡ 6144 }
+pub fn step_first(q: &Quarter, begun: bool, stored: State) -> State
     ensures { result ≡ step_of (first_job q.now) (if begun then stored else start_of (first_job q.now)) }
 {
     let slot = first_slot(q);
@@ -45,8 +42,9 @@ pub fn step_first(q: &[u8], begun: bool, stored: State) -> State
     stepping::step_request(kind, n, &q[from..end], begun, stored)
 }
 
-fn put_job(q: &mut [u8], slot: usize, kind: u64, n: u64, block: &[u8])
-    requires { (length q.old ≡ 6144) × (length block.now ≡ 640) × (slot < 8) }
+#[tactic(auto, unfolding(board_spec::specs::Quarter::put_job))]
+fn put_job(q: &mut Quarter, slot: usize, kind: u64, n: u64, block: &Block)
+    requires { slot < 8 }
     ensures { q.new ≡ put_job q.old slot kind n block.now }
 {
     buf::put_u64(q, 128 + 16 * slot, kind);
@@ -55,8 +53,9 @@ fn put_job(q: &mut [u8], slot: usize, kind: u64, n: u64, block: &[u8])
 }
 
 // Adds a job and returns its ticket.
-pub fn submit_quarter(q: &mut [u8], kind: u64, n: u64, block: &[u8]) -> u64
-    requires { (length q.old ≡ 6144) × (length block.now ≡ 640) × (u64_at q.old held_at < 8) }
+#[tactic(auto, unfolding(board_spec::specs::Quarter::submit_quarter))]
+pub fn submit_quarter(q: &mut Quarter, kind: u64, n: u64, block: &Block) -> u64
+    requires { u64_at q.old held_at < 8 }
     ensures { (result ≡ u64_at q.old accepted_at) × (q.new ≡ submit_quarter q.old kind n block.now) }
 {
     let ticket = buf::get_u64(q, 0);

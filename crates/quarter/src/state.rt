@@ -1,12 +1,13 @@
 // The running search of a quarter, as numbers and floats in its bytes.
-ghost use Rattle.std.specs.Prelude.{◌≡◌, length};
+ghost use Rattle.std.specs.Prelude.{◌≡◌};
 ghost use Rattle.board_spec.specs.Quarter.{load_counters, load_values, load_state, store_counters, store_values, store_state};
 
+use crate::bytes::Quarter;
 use solver::{Counters, Numbers, Values};
 use solver_state::State;
 
-pub fn load_counters(q: &[u8]) -> Counters
-    requires { length q.now ≡ 6144 }
+#[tactic(auto, unfolding(board_spec::specs::Quarter::load_counters))]
+pub fn load_counters(q: &Quarter) -> Counters
     ensures { result ≡ load_counters q.now }
 {
     let stage = buf::get_u64(q, 24);
@@ -25,8 +26,8 @@ pub fn load_counters(q: &[u8]) -> Counters
     }
 }
 
-fn load_values(q: &[u8]) -> Values
-    requires { length q.now ≡ 6144 }
+#[tactic(auto, unfolding(board_spec::specs::Quarter::load_values))]
+fn load_values(q: &Quarter) -> Values
     ensures { result ≡ load_values q.now }
 {
     let first = buf::get_f64(q, 72);
@@ -39,8 +40,8 @@ fn load_values(q: &[u8]) -> Values
     }
 }
 
-pub fn load_state(q: &[u8]) -> State
-    requires { length q.now ≡ 6144 }
+#[tactic(auto, unfolding(board_spec::specs::Quarter::load_state))]
+pub fn load_state(q: &Quarter) -> State
     ensures { result ≡ load_state q.now }
 {
     let counters = load_counters(q);
@@ -55,8 +56,8 @@ pub fn load_state(q: &[u8]) -> State
     }
 }
 
-fn store_counters(q: &mut [u8], counters: Counters)
-    requires { length q.old ≡ 6144 }
+#[tactic(auto, unfolding(board_spec::specs::Quarter::store_counters))]
+fn store_counters(q: &mut Quarter, counters: Counters)
     ensures { q.new ≡ store_counters q.old counters }
 {
     buf::put_u64(q, 24, counters.stage);
@@ -67,8 +68,8 @@ fn store_counters(q: &mut [u8], counters: Counters)
     buf::put_u64(q, 64, counters.rounds);
 }
 
-fn store_values(q: &mut [u8], values: Values)
-    requires { length q.old ≡ 6144 }
+#[tactic(auto, unfolding(board_spec::specs::Quarter::store_values))]
+fn store_values(q: &mut Quarter, values: Values)
     ensures { q.new ≡ store_values q.old values }
 {
     buf::put_f64(q, 72, values.first);
@@ -76,8 +77,8 @@ fn store_values(q: &mut [u8], values: Values)
     buf::put_f64(q, 88, values.third);
 }
 
-pub fn store_state(q: &mut [u8], state: State)
-    requires { length q.old ≡ 6144 }
+#[tactic(auto, unfolding(board_spec::specs::Quarter::store_state))]
+pub fn store_state(q: &mut Quarter, state: State)
     ensures { q.new ≡ store_state q.old state }
 {
     let numbers = state.numbers;

@@ -1,10 +1,7 @@
 -- `quarter::ranges::each_slot_fits`.
-use Rattle.std.proofs.Common.{◌≡◌, ◌+◌, ◌-◌, ◌≤◌}
+use Rattle.std.proofs.Common.{◌≡◌, ◌+◌, ◌-◌}
 use Rattle.board_spec.specs.Quarter.{slots_fit}
 use Rattle.quarter.proofs.ranges.each_slot_fits.Given as goal
 
 abbrev pub invariant-loop-i : goal.invariant-loop-i
-invariant-loop-i l = (l.i ≤ l.count) × (slots_fit l.q (l.ticket + l.i) (l.count - l.i) ≡ slots_fit l.q l.ticket l.count)
-
-abbrev pub decreases-loop-i : goal.decreases-loop-i
-decreases-loop-i l = l.count - l.i
+invariant-loop-i l = (slots_fit l.q (l.ticket + l.i) (l.count - l.i) ≡ slots_fit l.q l.ticket l.count)

@@ -4,6 +4,3 @@ use Rattle.quarter.proofs.turns.kept_state.Goals as goal
 
 pub returns-then-finished : goal.returns-then-finished
 returns-then-finished c = stepped_still _ c.finished.result _ c.finished.ensures c.if-finished.true c.load_state.ensures
-
-pub returns : goal.returns
-returns c = c.stepped.ensures
