@@ -31,11 +31,7 @@ fn exponent(j: u64) -> f64
     requires { j < 4096 }
     ensures { result ≡ of_int binary64 (minus j 1074) }
 {
-    if 1074 <= j {
-        (j - 1074) as f64
-    } else {
-        -((1074 - j) as f64)
-    }
+    (j as i64 - 1074) as f64
 }
 
 // ln 2 in two parts: the first ends in zeros, so that e times it is exact.

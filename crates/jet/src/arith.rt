@@ -1,6 +1,6 @@
 // Numbers as jets, and the arithmetic of jets. A function `.._to` works out the coefficients at positions below n
 // and leaves +0 at the others. Its loop is a function of its own: n = 4 goes without one, and then no jet is copied for it.
-ghost use Rattle.std.specs.Prelude.{◌≡◌, ◌≤◌, ◌<◌, min, []};
+ghost use Rattle.std.specs.Prelude.{◌≡◌, ◌≤◌, ◌<◌, []};
 ghost use Rattle.jet.specs.Positions.{positions};
 ghost use Rattle.jet.specs.Coefficients.{coefficient_of, number_of, marked_of, with_mark_of, sum_of, difference_of, negation_of, product_of, quotient_of, recip_of, square_of, factorial_of, derivative_at, derivative_of, cut};
 
@@ -72,13 +72,6 @@ pub fn neg(a: Jet) -> Jet
     Jet { c }
 }
 
-// The lesser of n and the number of positions.
-pub fn at_most(n: usize) -> usize
-    ensures { result ≡ min n positions }
-{
-    n.min(POSITION_COUNT)
-}
-
 // The coefficients of a product at positions below `end`.
 fn product(end: usize, x: &[f64; POSITION_COUNT], y: &[f64; POSITION_COUNT]) -> Jet
     requires { end ≤ positions }
@@ -97,7 +90,7 @@ pub fn mul_to(n: usize, a: Jet, b: Jet) -> Jet
     if n == 4 {
         return mul_4(a, b);
     }
-    product(at_most(n), &a.c, &b.c)
+    product(n.min(POSITION_COUNT), &a.c, &b.c)
 }
 
 pub fn mul(a: Jet, b: Jet) -> Jet
@@ -124,7 +117,7 @@ pub fn div_to(n: usize, a: Jet, b: Jet) -> Jet
     if n == 4 {
         return div_4(a, b);
     }
-    quotient(at_most(n), &a.c, &b.c)
+    quotient(n.min(POSITION_COUNT), &a.c, &b.c)
 }
 
 pub fn div(a: Jet, b: Jet) -> Jet

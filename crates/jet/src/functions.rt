@@ -3,7 +3,6 @@ ghost use Rattle.std.specs.Prelude.{◌≡◌, ◌≤◌};
 ghost use Rattle.jet.specs.Positions.{positions};
 ghost use Rattle.jet.specs.Coefficients.{root_of, logarithm_of, cut};
 
-use crate::arith::at_most;
 use crate::four::{ln_4, sqrt_4};
 use crate::positions::next;
 use crate::terms::{minus, weight};
@@ -32,7 +31,7 @@ pub fn sqrt_to(n: usize, a: Jet) -> Jet
     if n == 4 {
         return sqrt_4(a);
     }
-    root(at_most(n), &a.c)
+    root(n.min(POSITION_COUNT), &a.c)
 }
 
 pub fn sqrt(a: Jet) -> Jet
@@ -67,7 +66,7 @@ pub fn ln_to(n: usize, a: Jet) -> Jet
     if n == 4 {
         return ln_4(a);
     }
-    logarithm(at_most(n), &a.c)
+    logarithm(n.min(POSITION_COUNT), &a.c)
 }
 
 pub fn ln(a: Jet) -> Jet

@@ -1,4 +1,5 @@
-// The sums over the positions not above m that the coefficient rules share.
+// The sums over the positions not above m that the coefficient rules share. `next` leads from one of these to the
+// following; nothing is counted, so that a `for` would be no plainer than the `while`.
 ghost use Rattle.std.specs.Prelude.{◌≡◌, ◌-◌, ◌<◌, true, drop};
 ghost use mathlib.Core.List.{foldl};
 ghost use Rattle.float.specs.Ops.{◌⊕◌, ◌⊗◌};

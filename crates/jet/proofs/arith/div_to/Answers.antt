@@ -8,8 +8,8 @@ pub returns-then-n-eq4 : goal.returns-then-n-eq4
 returns-then-n-eq4 c = rw c.if-n-eq4.true c.div_4.ensures
 
 pub quotient-requires : goal.quotient-requires
-quotient-requires c = rw c.at_most.ensures (min-le_right _ _)
+quotient-requires c = rw c.min.ensures (min-le_right _ _)
 
 pub returns : goal.returns
 unfolding quotient_of
-returns c = cut_at_most (quotient_at c.args.a.c c.args.b.c) c.args.n c.at_most.result _ c.at_most.ensures c.quotient.ensures
+returns c = cut_at_most (quotient_at c.args.a.c c.args.b.c) c.args.n c.min.result _ c.min.ensures c.quotient.ensures

@@ -8,8 +8,8 @@ pub returns-then-n-eq4 : goal.returns-then-n-eq4
 returns-then-n-eq4 c = rw c.if-n-eq4.true c.mul_4.ensures
 
 pub product-requires : goal.product-requires
-product-requires c = rw c.at_most.ensures (min-le_right _ _)
+product-requires c = rw c.min.ensures (min-le_right _ _)
 
 pub returns : goal.returns
 unfolding product_of
-returns c = cut_at_most (product_at c.args.a.c c.args.b.c) c.args.n c.at_most.result _ c.at_most.ensures c.product.ensures
+returns c = cut_at_most (product_at c.args.a.c c.args.b.c) c.args.n c.min.result _ c.min.ensures c.product.ensures

@@ -8,8 +8,8 @@ pub returns-then-n-eq4 : goal.returns-then-n-eq4
 returns-then-n-eq4 c = rw c.if-n-eq4.true c.sqrt_4.ensures
 
 pub root-requires : goal.root-requires
-root-requires c = rw c.at_most.ensures (min-le_right _ _)
+root-requires c = rw c.min.ensures (min-le_right _ _)
 
 pub returns : goal.returns
 unfolding root_of
-returns c = cut_at_most (root_at c.args.a.c) c.args.n c.at_most.result _ c.at_most.ensures c.root.ensures
+returns c = cut_at_most (root_at c.args.a.c) c.args.n c.min.result _ c.min.ensures c.root.ensures
