@@ -26,17 +26,6 @@ module _ (w : ℕ) where
       let S = mul_upto w y y' s Y y y' Y es in
       mul_upto w s (y' ⊠ y') out S n3 (number_of a) (is w e4) eo
 
-  pub mix_term_law : (ai aj xi xj : List Float) (k : Float) (p r x n y out : List Float)
-      → Upto w p (product_of ai aj) → Upto w r (root_of p) → Upto w x (product_of xi xj) → n ≡ number_of (f1 ⊖ k) → Upto w y (product_of x n) → Upto w out (product_of r y)
-      → Upto w out (mix_term ai aj xi xj k)
-  unfolding mix_term
-  mix_term_law ai aj xi xj k p r x n y out ep er ex en ey eo =
-      let P = mul_upto w ai ai p refl aj aj refl ep in
-      let R = sqrt_upto w p (ai ⊠ aj) r P er in
-      let X = mul_upto w xi xi x refl xj xj refl ex in
-      let Y = mul_upto w x (xi ⊠ xj) y X n (number_of (f1 ⊖ k)) (is w en) ey in
-      mul_upto w r (root_of (ai ⊠ aj)) out R y (xi ⊠ xj ⊠ number_of (f1 ⊖ k)) Y eo
-
   pub repulsion_law : (v b d q out : List Float) → Upto w d (difference_of v b) → Upto w q (quotient_of v d) → Upto w out (logarithm_of q) → Upto w out (repulsion v b)
   unfolding repulsion
   repulsion_law v b d q out ed eq eo =

@@ -5,7 +5,7 @@ use native.Mathlib.Omega.{arith}
 use mathlib.Core.Bool.{true}
 use mathlib.Core.List.{List}
 use lib.Ieee.{Float, of_int, of_bits}
-use Rattle.float.specs.Ops.{◌⊕◌, ◌⊖◌, ◌⊗◌, ◌⊘◌, f0, f1}
+use Rattle.float.specs.Ops.{◌⊕◌, ◌⊖◌, ◌⊗◌, ◌⊘◌, f1}
 use Rattle.float.specs.Ln.{ln_of}
 use Rattle.jet.specs.Coefficients.{at, Upto, number_of, marked_of, factorial, factorial_of}
 use Rattle.jet.specs.Positions.{first_order}
@@ -15,7 +15,7 @@ use Rattle.eos.specs.declared.types.Blend.{Blend}
 use Rattle.evaluations.specs.declared.types.Pressure.{Pressure}
 use Rattle.eos.specs.Cubic.{nth, components_of}
 use Rattle.eos.specs.Helmholtz.{helmholtz}
-use Rattle.evaluations.specs.Residual.{along_volume, derived, pressure_from, slope_from, curvature_from, p_dpdrho, p_dpdrho_d2pdrho2, chemical_potential}
+use Rattle.evaluations.specs.Residual.{along_volume, derived, pressure_from, slope_from, curvature_from, p_dpdrho_d2pdrho2, chemical_potential}
 use Rattle.eos.proofs.Energy.{helmholtz_cong}
 
 pub along_law : (b : Blend) (t v : Float) (n : ℕ) (T U : List Float) (moles : ℕ → List Float) (out : List Float)
@@ -57,10 +57,6 @@ module _ (b : Blend) (t ρ : Float) (a : List Float) (e : Upto 4 a (along_volume
   curvature_of : curvature_from (f1 ⊘ ρ) a ≡ curvature_from (f1 ⊘ ρ) (along_volume b t (f1 ⊘ ρ))
   unfolding curvature_from
   curvature_of = rw (second, third)
-
-  pub p_dpdrho_law : (p s : Float) → p ≡ pressure_from t ρ a → s ≡ slope_from t (f1 ⊘ ρ) a → ◌≡◌ {A = Pressure} (record { p = p; dp_drho = s; d2p_drho2 = f0 }) (p_dpdrho b t ρ)
-  unfolding p_dpdrho
-  p_dpdrho_law p s ep es = rw (ep ∙ pressure_of, es ∙ slope_of)
 
   pub p_dpdrho_d2pdrho2_law : (p s d : Float) → p ≡ pressure_from t ρ a → s ≡ slope_from t (f1 ⊘ ρ) a → d ≡ curvature_from (f1 ⊘ ρ) a → ◌≡◌ {A = Pressure} (record { p = p; dp_drho = s; d2p_drho2 = d }) (p_dpdrho_d2pdrho2 b t ρ)
   unfolding p_dpdrho_d2pdrho2

@@ -1,6 +1,6 @@
 -- `eos::cubic::dot`.
 use mathlib.Core.Path.{◌≡◌}
-use Prim.Native.Nat.{◌-◌, ◌≤◌}
+use Prim.Native.Nat.{◌-◌}
 use Rattle.float.specs.Ops.{◌⊕◌, ◌⊗◌}
 use Rattle.eos.specs.Indices.{fold_from, total}
 use Rattle.eos.specs.Cubic.{nth}

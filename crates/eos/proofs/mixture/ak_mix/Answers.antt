@@ -3,7 +3,7 @@ use Prim.Native.Nat.{◌+◌, ◌*◌}
 use native.Mathlib.Omega.{arith}
 use native.Mathlib.Nat.{sub-zero}
 use Rattle.jet.specs.Ops.{◌⊞◌}
-use Rattle.jet.proofs.Prefix.{add_upto, is}
+use Rattle.jet.proofs.Prefix.{add_upto}
 use Rattle.eos.specs.Jets.{jet_at}
 use Rattle.eos.specs.Cubic.{nth, mix_term, mix_row, ak_mix}
 use Rattle.eos.proofs.Folds.{upto_turn, upto_end}

@@ -1,6 +1,6 @@
 -- `eos::mixture::aks`.
 use mathlib.Core.Path.{◌≡◌}
-use Prim.Native.Nat.{ℕ, ◌-◌, ◌≤◌, ◌<◌}
+use Prim.Native.Nat.{ℕ, ◌<◌}
 use lib.ListN.{length}
 use Rattle.jet.specs.Coefficients.{Upto}
 use Rattle.eos.specs.Jets.{jet_at}

@@ -3,7 +3,7 @@ use Prim.Native.Nat.{◌-◌}
 use native.Mathlib.Omega.{arith}
 use Rattle.jet.specs.Coefficients.{number_of}
 use Rattle.jet.specs.Ops.{◌⊞◌, ◌⊠◌}
-use Rattle.jet.proofs.Prefix.{add_upto, is, mul_along, mul_upto}
+use Rattle.jet.proofs.Prefix.{add_upto, is, mul_upto}
 use Rattle.eos.specs.Indices.{jet_total}
 use Rattle.eos.specs.Jets.{jet_at}
 use Rattle.eos.specs.Cubic.{nth, b_mix}

@@ -1,5 +1,5 @@
 -- `eos::mixture::b_mix`.
-use Prim.Native.Nat.{◌-◌, ◌≤◌}
+use Prim.Native.Nat.{◌-◌}
 use Rattle.jet.specs.Coefficients.{Upto, number_of}
 use Rattle.jet.specs.Ops.{◌⊞◌, ◌⊠◌}
 use Rattle.eos.specs.Indices.{fold_from}

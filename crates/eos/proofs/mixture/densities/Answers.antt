@@ -3,7 +3,7 @@ use native.Mathlib.Omega.{arith}
 use lib.ListN.{length-set}
 use Rattle.jet.specs.Coefficients.{Upto, number_of}
 use Rattle.jet.specs.Ops.{◌⧄◌}
-use Rattle.jet.proofs.Prefix.{div_along, div_upto, is}
+use Rattle.jet.proofs.Prefix.{div_upto, is}
 use Rattle.eos.specs.Cubic.{nth}
 use Rattle.eos.proofs.Totals.{put_turn}
 use Rattle.eos.proofs.mixture.densities.Goals as goal

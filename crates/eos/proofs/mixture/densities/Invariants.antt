@@ -1,6 +1,6 @@
 -- `eos::mixture::densities`.
 use mathlib.Core.Path.{◌≡◌}
-use Prim.Native.Nat.{ℕ, ◌-◌, ◌≤◌, ◌<◌}
+use Prim.Native.Nat.{ℕ, ◌<◌}
 use lib.ListN.{length}
 use Rattle.jet.specs.Coefficients.{Upto, number_of}
 use Rattle.jet.specs.Ops.{◌⧄◌}

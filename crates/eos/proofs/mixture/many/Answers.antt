@@ -3,7 +3,6 @@ use Rattle.jet.specs.Coefficients.{number_of}
 use Rattle.eos.specs.Jets.{jet_at}
 use Rattle.eos.specs.Cubic.{nth}
 use Rattle.eos.proofs.Energy.{many_law}
-use Rattle.jet.proofs.Prefix.{is}
 use Rattle.eos.proofs.mixture.many.Goals as goal
 
 pub returns : goal.returns

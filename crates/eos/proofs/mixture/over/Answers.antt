@@ -3,7 +3,7 @@ use native.Mathlib.Omega.{arith}
 use lib.ListN.{length-set}
 use Rattle.jet.specs.Coefficients.{Upto}
 use Rattle.jet.specs.Ops.{◌⧄◌}
-use Rattle.jet.proofs.Prefix.{div_along, div_upto}
+use Rattle.jet.proofs.Prefix.{div_upto}
 use Rattle.eos.specs.Jets.{jet_at}
 use Rattle.eos.proofs.Totals.{put_turn}
 use Rattle.eos.proofs.mixture.over.Goals as goal

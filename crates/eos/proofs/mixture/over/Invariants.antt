@@ -1,6 +1,6 @@
 -- `eos::mixture::over`.
 use mathlib.Core.Path.{◌≡◌}
-use Prim.Native.Nat.{ℕ, ◌-◌, ◌≤◌, ◌<◌}
+use Prim.Native.Nat.{ℕ, ◌<◌}
 use lib.ListN.{length}
 use Rattle.jet.specs.Coefficients.{Upto}
 use Rattle.jet.specs.Ops.{◌⧄◌}

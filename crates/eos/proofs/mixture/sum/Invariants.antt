@@ -1,6 +1,5 @@
 -- `eos::mixture::sum`.
-use mathlib.Core.Path.{◌≡◌}
-use Prim.Native.Nat.{◌-◌, ◌≤◌}
+use Prim.Native.Nat.{◌-◌}
 use Rattle.jet.specs.Coefficients.{Upto}
 use Rattle.jet.specs.Ops.{◌⊞◌}
 use Rattle.eos.specs.Indices.{fold_from, jet_total}
