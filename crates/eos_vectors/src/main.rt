@@ -8,10 +8,11 @@
 ghost use Rattle.std.specs.Prelude.{◌≤◌, IsTrue};
 
 use eos::Blend;
-use evaluations::{Condition, Criticality, Pressure, PressureCriticality, Stability};
+use evaluations::{Criticality, Pressure, PressureCriticality, Stability};
 use std::io;
 use std::io::{BufReader, BufWriter, ErrorKind, Read, Write};
 
+// In the order of their bytes.
 #[derive(Clone, Copy)]
 enum Evaluation {
     Slope,
