@@ -1,16 +1,18 @@
 // Reads evaluations and prints what each yields as words of 16 hexadecimal digits, a line each. An evaluation is its byte,
 // the number of components N in a byte, and floats as bit patterns, little-endian: critical temperature, critical pressure
-// and acentric factor of each component; the interactions k_ij by rows, i below j; the fractions; temperature; density. In 7 and 8 two partial densities stand for the fractions and
-// the pressure for the density. README.md has the evaluation bytes.
+// and acentric factor of each component; the interactions k_ij by rows, i below j; the fractions; temperature; density.
+// In 7 and 8 two partial densities stand for the fractions and the pressure for the density. README.md has the evaluation
+// bytes.
 #![tactic(auto)]
 
 ghost use Rattle.std.specs.Prelude.{◌≤◌, IsTrue};
 
 use eos::Blend;
-use evaluations::{Condition, Criticality, Pressure, PressureCriticality, Stability};
+use evaluations::{Criticality, Pressure, PressureCriticality, Stability};
 use std::io;
 use std::io::{BufReader, BufWriter, ErrorKind, Read, Write};
 
+// In the order of their bytes.
 #[derive(Clone, Copy)]
 enum Evaluation {
     Slope,
