@@ -59,53 +59,31 @@ fn uses_start(kind: u64, choice: u64) -> bool
     }
 }
 
-#[tactic(auto, unfolding(crate::specs::Numbers::used_choice))]
-fn choice(kind: u64, block: &[u8], at: usize) -> u64
-    requires { at + 32 ≤ length block.now }
-    ensures { result ≡ used_choice kind (u64_at block.now at) }
-{
-    if uses_choice(kind) {
-        buf::get_u64(block, at)
-    } else {
-        0
-    }
-}
-
-#[tactic(auto, unfolding(crate::specs::Numbers::used_pressure))]
-fn pressure(kind: u64, block: &[u8], at: usize) -> f64
-    requires { at + 32 ≤ length block.now }
-    ensures { result ≡ used_pressure kind (f64_at block.now (at + 16)) }
-{
-    if uses_pressure(kind) {
-        buf::get_f64(block, at + 16)
-    } else {
-        0.0
-    }
-}
-
-#[tactic(auto, unfolding(crate::specs::Numbers::used_start))]
-fn start(kind: u64, choice: u64, block: &[u8], at: usize) -> f64
-    requires { at + 32 ≤ length block.now }
-    ensures { result ≡ used_start kind choice (f64_at block.now (at + 24)) }
-{
-    if uses_start(kind, choice) {
-        buf::get_f64(block, at + 24)
-    } else {
-        0.0
-    }
-}
-
-#[tactic(auto, unfolding(crate::specs::Numbers::conditions_of, crate::specs::Numbers::conditions_at, crate::specs::Numbers::used))]
+#[tactic(auto, unfolding(crate::specs::Numbers::conditions_of, crate::specs::Numbers::conditions_at, crate::specs::Numbers::used, crate::specs::Numbers::used_choice, crate::specs::Numbers::used_pressure, crate::specs::Numbers::used_start))]
 pub fn conditions(kind: u64, block: &[u8], at: usize) -> Conditions
     requires { at + 32 ≤ length block.now }
     ensures { result ≡ conditions_of kind block.now at }
 {
-    let chosen = choice(kind, block, at);
+    let choice = if uses_choice(kind) {
+        buf::get_u64(block, at)
+    } else {
+        0
+    };
     let temperature = buf::get_f64(block, at + 8);
+    let pressure = if uses_pressure(kind) {
+        buf::get_f64(block, at + 16)
+    } else {
+        0.0
+    };
+    let start = if uses_start(kind, choice) {
+        buf::get_f64(block, at + 24)
+    } else {
+        0.0
+    };
     Conditions {
-        choice: chosen,
+        choice,
         temperature,
-        pressure: pressure(kind, block, at),
-        start: start(kind, chosen, block, at),
+        pressure,
+        start,
     }
 }
