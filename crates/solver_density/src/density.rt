@@ -329,8 +329,22 @@ pub fn density_search(blend: Blend, c: Conditions) -> Ran
     }
 }
 
-// Kind 1. Hands out the density.
+// kind 1 with the maximum density at hand
 #[tactic(auto, unfolding(crate::specs::Density::density_iteration))]
+pub fn iteration(
+    blend: Blend,
+    maxdensity: f64,
+    temperature: f64,
+    pressure: f64,
+    initial: DensityInitialization,
+) -> Ran
+    ensures { result ≡ run finite_of (evaluated blend) 0 (density_iteration maxdensity temperature pressure initial) }
+{
+    let c = conditions(maxdensity, temperature, pressure, initial);
+    density_search(blend, c)
+}
+
+// Kind 1. Hands out the density.
 pub fn density_iteration(
     blend: Blend,
     temperature: f64,
@@ -340,8 +354,5 @@ pub fn density_iteration(
     ensures { result ≡ run finite_of (evaluated blend) 0 (density_iteration (max_density blend) temperature pressure initial) }
 {
     let maxdensity = eos::compute_max_density(blend);
-    density_search(
-        blend,
-        conditions(maxdensity, temperature, pressure, initial),
-    )
+    iteration(blend, maxdensity, temperature, pressure, initial)
 }

@@ -6,7 +6,7 @@ ghost use Rattle.solver.specs.Search.{run};
 ghost use Rattle.solver.specs.Evaluated.{evaluated};
 ghost use Rattle.solver_density.specs.Stable.{lower_potential, potentials as potentials_tree, stable_phase, density_iteration_stable};
 
-use crate::density::{conditions, density_search};
+use crate::density::iteration;
 use eos::Blend;
 use solver::{Answer, DensityInitialization, Ran, Refusal, Values};
 
@@ -66,21 +66,21 @@ pub fn density_iteration_stable(blend: Blend, temperature: f64, pressure: f64) -
     ensures { result ≡ run finite_of (evaluated blend) 0 (density_iteration_stable (max_density blend) temperature pressure) }
 {
     let maxdensity = eos::compute_max_density(blend);
-    let of_liquid = conditions(
+    let liquid = iteration(
+        blend,
         maxdensity,
         temperature,
         pressure,
         DensityInitialization::Liquid,
     );
-    let liquid = density_search(blend, of_liquid);
     if pressure < maxdensity * temperature {
-        let of_vapor = conditions(
+        let vapor = iteration(
+            blend,
             maxdensity,
             temperature,
             pressure,
             DensityInitialization::Vapor,
         );
-        let vapor = density_search(blend, of_vapor);
         let stable = stable_phase(blend, temperature, liquid.answer, vapor.answer);
         return Ran {
             evaluations: liquid.evaluations + vapor.evaluations + stable.evaluations,

@@ -36,15 +36,16 @@ pub loop-made-preserved : goal.loop-made-preserved
 unfolding slope_led
 loop-made-preserved c =
     elim c.match-slope_round.branch [
-      in-Next w ↦
-        rw (w.evaluations-is, w.rho-is)
-        (omega arith, slope_turn _ _ _ c.loop-made.made c.args.rounds c.loop-made.evaluations _ (Slope.Next _) _ (omega arith) c.p_dpdrho-y.ensures w.in-Next.ensures c.loop-made.invariant.1)
-    | in-Unstable+in-Ok w ↦
-        let most = part_most _ 61 _ w.unstable-d.result (unstable_61 _ _ _) w.unstable-d.ensures in
-        rw (w.evaluations-is, w.rho-is)
-        (omega arith,
-        part_found _ _ _ _ w.unstable-d.result _ w.unstable-d.ensures w.in-Ok.is
-        ∙ slope_turn _ _ _ c.loop-made.made c.args.rounds c.loop-made.evaluations _ (Slope.Unstable _) _ (omega arith) c.p_dpdrho-y.ensures w.in-Unstable.ensures c.loop-made.invariant.1)
+      | in-Next w ↦
+          rw (w.evaluations-is, w.rho-is)
+          (omega arith, slope_turn _ _ _ c.loop-made.made c.args.rounds c.loop-made.evaluations _ (Slope.Next _) _ (omega arith) c.p_dpdrho-y.ensures w.in-Next.ensures c.loop-made.invariant.1)
+      | in-Unstable+in-Ok w ↦
+          let most = part_most _ 61 _ w.unstable-d.result (unstable_61 _ _ _) w.unstable-d.ensures in
+          rw (w.evaluations-is, w.rho-is) (
+            omega arith,
+            part_found _ _ _ _ w.unstable-d.result _ w.unstable-d.ensures w.in-Ok.is
+                ∙ slope_turn _ _ _ c.loop-made.made c.args.rounds c.loop-made.evaluations _ (Slope.Unstable _) _ (omega arith) c.p_dpdrho-y.ensures w.in-Unstable.ensures c.loop-made.invariant.1,
+          )
     ]
 
 pub returns : goal.returns
