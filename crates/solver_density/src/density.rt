@@ -17,14 +17,13 @@ use solver::{Answer, DensityInitialization, Ran, Refusal, Values};
 pub fn found_density(rho: f64) -> Answer
     ensures { result ≡ density_answer rho }
 {
-    let found = Values {
+    Ok(Values {
         first: rho,
-        second: 0.0,
-        third: 0.0,
-    };
-    Ok(found)
+        ..Values::default()
+    })
 }
 
+#[tactic(auto, unfolding(crate::specs::Density::start_of))]
 fn start_of(maxdensity: f64, t: f64, p: f64, initial: DensityInitialization) -> f64
     ensures { result ≡ start_of maxdensity t p initial }
 {
@@ -36,6 +35,7 @@ fn start_of(maxdensity: f64, t: f64, p: f64, initial: DensityInitialization) -> 
 }
 
 // where a density search begins
+#[tactic(auto, unfolding(crate::specs::Density::conditions_of))]
 pub fn conditions(maxdensity: f64, t: f64, p: f64, initial: DensityInitialization) -> Conditions
     ensures { result ≡ conditions_of maxdensity t p initial }
 {
@@ -48,6 +48,7 @@ pub fn conditions(maxdensity: f64, t: f64, p: f64, initial: DensityInitializatio
 }
 
 // attempt to correct for poor initial density
+#[tactic(auto, unfolding(crate::specs::Density::corrected))]
 pub fn correct(c: Conditions) -> f64
     ensures { result ≡ corrected c }
 {
@@ -60,6 +61,7 @@ pub fn correct(c: Conditions) -> f64
 }
 
 // the Newton step with its caps
+#[tactic(auto, unfolding(crate::specs::Density::newton))]
 fn newton(c: Conditions, rho: f64, error: f64, dpdrho: f64) -> f64
     ensures { result ≡ newton_of c rho error dpdrho }
 {
@@ -67,12 +69,14 @@ fn newton(c: Conditions, rho: f64, error: f64, dpdrho: f64) -> f64
     rho + float::max(delta_rho, -0.95 * rho)
 }
 
+#[tactic(auto, unfolding(crate::specs::Density::converged))]
 fn has_converged(error: f64, rho: f64) -> bool
     ensures { result ≡ converged error rho }
 {
     float::abs(error) < float::max(1e-12, rho * 1e-14)
 }
 
+#[tactic(auto, unfolding(crate::specs::Rounds::newton_round))]
 fn newton_round(c: Conditions, rho: f64, error: f64, dpdrho: f64) -> SlopeOutcome
     ensures { result ≡ newton_round c rho error dpdrho }
 {
@@ -87,6 +91,7 @@ fn newton_round(c: Conditions, rho: f64, error: f64, dpdrho: f64) -> SlopeOutcom
 }
 
 // a round at rho, with its tests for 27
+#[tactic(auto, unfolding(crate::specs::Rounds::slope_round))]
 pub fn slope_round(c: Conditions, rho: f64, y: Pressure) -> SlopeOutcome
     ensures { result ≡ slope_round c rho y }
 {
@@ -106,6 +111,7 @@ pub fn slope_round(c: Conditions, rho: f64, y: Pressure) -> SlopeOutcome
 }
 
 // which of the five detours leads out of the unstable region
+#[tactic(auto, unfolding(crate::specs::Density::detour_of))]
 pub fn detour_of(maxdensity: f64, rho: f64, error: f64, curvature: f64) -> Detour
     ensures { result ≡ detour_of maxdensity rho error curvature }
 {
@@ -124,6 +130,7 @@ pub fn detour_of(maxdensity: f64, rho: f64, error: f64, curvature: f64) -> Detou
     Detour::ByNearest(Nearest::AboveConvex)
 }
 
+#[tactic(auto, unfolding(crate::specs::Density::beside_spinodal))]
 fn beside_spinodal(c: Conditions, sp: Values) -> f64
     ensures { result ≡ beside_spinodal c sp }
 {
@@ -135,6 +142,7 @@ fn beside_spinodal(c: Conditions, sp: Values) -> f64
 }
 
 // where a detour through the nearest spinodal leads
+#[tactic(auto, unfolding(crate::specs::Density::after_nearest))]
 pub fn after_nearest(c: Conditions, way: Nearest, sp: Values) -> Answer
     ensures { result ≡ after_nearest c way sp }
 {
@@ -162,6 +170,7 @@ pub fn after_nearest(c: Conditions, way: Nearest, sp: Values) -> Answer
 }
 
 // where a detour through both spinodals leads
+#[tactic(auto, unfolding(crate::specs::Density::after_both))]
 pub fn after_both(c: Conditions, way: Both, liquid: f64, v: Values) -> f64
     ensures { result ≡ after_both c way liquid v }
 {
@@ -197,17 +206,9 @@ fn by_nearest(blend: Blend, c: Conditions, way: Nearest) -> Ran
     ensures { result ≡ run finite_of (evaluated blend) 0 (detour_tree c (Detour.ByNearest way)) }
 {
     let s = spinodal_search(blend, c.maxdensity, c.temperature, c.start);
-    let evaluations = s.evaluations;
-    let answer = s.answer;
-    match answer {
-        Ok(sp) => Ran {
-            answer: after_nearest(c, way, sp),
-            evaluations,
-        },
-        Err(refusal) => Ran {
-            answer: Err(refusal),
-            evaluations,
-        },
+    Ran {
+        answer: s.answer.and_then(|sp| after_nearest(c, way, sp)),
+        ..s
     }
 }
 
@@ -216,40 +217,23 @@ fn by_vapor(blend: Blend, c: Conditions, way: Both, liquid: f64) -> Ran
     ensures { result ≡ run finite_of (evaluated blend) 0 (vapor_tree c way liquid) }
 {
     let s = branch_search(blend, c.maxdensity, c.temperature, Branch::Vapor);
-    let evaluations = s.evaluations;
-    let answer = s.answer;
-    match answer {
-        Ok(v) => Ran {
-            answer: found_density(after_both(c, way, liquid, v)),
-            evaluations,
-        },
-        Err(refusal) => Ran {
-            answer: Err(refusal),
-            evaluations,
-        },
+    Ran {
+        answer: s
+            .answer
+            .and_then(|v| found_density(after_both(c, way, liquid, v))),
+        ..s
     }
 }
 
 fn by_both(blend: Blend, c: Conditions, way: Both) -> Ran
     ensures { result ≡ run finite_of (evaluated blend) 0 (detour_tree c (Detour.ByBoth way)) }
 {
-    let s = branch_search(blend, c.maxdensity, c.temperature, Branch::Liquid);
-    let evaluations = s.evaluations;
-    let answer = s.answer;
-    match answer {
-        Ok(liquid) => {
-            let v = by_vapor(blend, c, way, liquid.second);
-            let after = v.answer;
-            Ran {
-                answer: after,
-                evaluations: evaluations + v.evaluations,
-            }
-        }
-        Err(refusal) => Ran {
-            answer: Err(refusal),
-            evaluations,
-        },
-    }
+    branch_search(blend, c.maxdensity, c.temperature, Branch::Liquid).and_then(|liquid| by_vapor(
+        blend,
+        c,
+        way,
+        liquid.second,
+    ))
 }
 
 fn detour(blend: Blend, c: Conditions, way: Detour) -> Ran
@@ -266,17 +250,17 @@ fn unstable(blend: Blend, c: Conditions, rho: f64, error: f64) -> Ran
     ensures { result ≡ run finite_of (evaluated blend) 0 (unstable_tree c rho error) }
 {
     let y = evaluations::p_dpdrho_d2pdrho2(blend, c.temperature, rho);
-    if !all_finite(y) {
-        return Ran {
+    if all_finite(y) {
+        let d = detour(blend, c, detour_of(c.maxdensity, rho, error, y.d2p_drho2));
+        Ran {
+            evaluations: 1 + d.evaluations,
+            ..d
+        }
+    } else {
+        Ran {
             answer: Err(Refusal::NotFinite),
             evaluations: 1,
-        };
-    }
-    let d = detour(blend, c, detour_of(c.maxdensity, rho, error, y.d2p_drho2));
-    let answer = d.answer;
-    Ran {
-        answer,
-        evaluations: 1 + d.evaluations,
+        }
     }
 }
 
@@ -285,16 +269,12 @@ fn iterate(blend: Blend, c: Conditions, rounds: u64, start: f64) -> Ran
     requires { rounds ≤ 50 }
     ensures { result ≡ run finite_of (evaluated blend) 1 (density_from c rounds start) }
 {
-    let temperature = c.temperature;
     let mut rho = start;
-    let mut left = rounds;
-    let mut evaluations: u64 = 1;
-    'iteration: while 0 < left {
-        left -= 1;
+    let mut evaluations = 1;
+    for made in 0..rounds {
         evaluations += 1;
-        let y = evaluations::p_dpdrho(blend, temperature, rho);
-        let outcome = slope_round(c, rho, y);
-        match outcome {
+        let y = evaluations::p_dpdrho(blend, c.temperature, rho);
+        rho = match slope_round(c, rho, y) {
             SlopeOutcome::NotFinite => {
                 return Ran {
                     answer: Err(Refusal::NotFinite),
@@ -307,28 +287,16 @@ fn iterate(blend: Blend, c: Conditions, rounds: u64, start: f64) -> Ran
                     evaluations,
                 };
             }
-            SlopeOutcome::Next(next) => {
-                rho = next;
-                continue 'iteration;
-            }
+            SlopeOutcome::Next(next) => next,
             SlopeOutcome::Unstable(error) => {
                 let d = unstable(blend, c, rho, error);
                 evaluations += d.evaluations;
-                let answer = d.answer;
-                match answer {
-                    Ok(next) => {
-                        rho = next.first;
-                        continue 'iteration;
-                    }
-                    Err(refusal) => {
-                        return Ran {
-                            answer: Err(refusal),
-                            evaluations,
-                        };
-                    }
+                match d.answer {
+                    Ok(next) => next.first,
+                    Err(_) => return Ran { evaluations, ..d },
                 }
             }
-        }
+        };
     }
     Ran {
         answer: Err(Refusal::NotConverged),
@@ -347,8 +315,7 @@ pub fn density_search(blend: Blend, c: Conditions) -> Ran
         };
     }
     let y = evaluations::p_dpdrho(blend, c.temperature, start);
-    let outcome = slope_round(c, start, y);
-    match outcome {
+    match slope_round(c, start, y) {
         SlopeOutcome::NotFinite => Ran {
             answer: Err(Refusal::NotFinite),
             evaluations: 1,
@@ -362,6 +329,21 @@ pub fn density_search(blend: Blend, c: Conditions) -> Ran
     }
 }
 
+// kind 1 with the maximum density at hand
+#[tactic(auto, unfolding(crate::specs::Density::density_iteration))]
+pub fn iteration(
+    blend: Blend,
+    maxdensity: f64,
+    temperature: f64,
+    pressure: f64,
+    initial: DensityInitialization,
+) -> Ran
+    ensures { result ≡ run finite_of (evaluated blend) 0 (density_iteration maxdensity temperature pressure initial) }
+{
+    let c = conditions(maxdensity, temperature, pressure, initial);
+    density_search(blend, c)
+}
+
 // Kind 1. Hands out the density.
 pub fn density_iteration(
     blend: Blend,
@@ -372,8 +354,5 @@ pub fn density_iteration(
     ensures { result ≡ run finite_of (evaluated blend) 0 (density_iteration (max_density blend) temperature pressure initial) }
 {
     let maxdensity = eos::compute_max_density(blend);
-    density_search(
-        blend,
-        conditions(maxdensity, temperature, pressure, initial),
-    )
+    iteration(blend, maxdensity, temperature, pressure, initial)
 }

@@ -8,7 +8,7 @@ use Rattle.solver_density.specs.declared.types.Nearest.{Nearest}
 use Rattle.solver_density.specs.declared.types.Nearest.TheVariants.{HighDensity, AboveConvex, BelowConcave}
 use Rattle.solver_density.specs.declared.types.Both.{Both}
 use Rattle.solver_density.specs.declared.types.Both.TheVariants.{BelowConvex, AboveConcave}
-use Rattle.solver_step.specs.declared.types.SpinodalSpot.{SpinodalSpot}
+use Rattle.solver_step.specs.SpinodalStep.{SpinodalSpot}
 use Rattle.solver.specs.Answer.{Progress}
 use Rattle.std.specs.declared.ops.ControlFlow.TheVariants.{Break, Continue}
 use Rattle.solver_step.specs.Phase.{Phase, Standing}
@@ -46,25 +46,25 @@ spot_numbers tag left way rounds x y =
 -- ---- kinds 3 and 4: tag 0 is the end, any other a round
 unfoldable pub spinodal_numbers : Progress SpinodalSpot → Numbers
 spinodal_numbers (Break a) = ended_numbers a
-spinodal_numbers (Continue s) = spot_numbers 1 0 0 s.rounds s.rho f0
+spinodal_numbers (Continue s) = spot_numbers 1 0 0 s.rounds s.at f0
 
 unfoldable pub spinodal_spot_by : Numbers → SpinodalSpot
-spinodal_spot_by n = record { rounds = n.counters.rounds; rho = n.values.first }
+spinodal_spot_by n = record { rounds = n.counters.rounds; at = n.values.first }
 
 unfoldable pub spinodal_place_by : Numbers → Progress SpinodalSpot
 spinodal_place_by n = cond (eqb n.counters.tag 0) (Break (answer_by n.counters.status n.values)) (Continue (spinodal_spot_by n))
 
 -- ---- kind 1: tag 0 is the end, 1 to 6 the places in the order of their type
-unfoldable pub phase_by : (status : ℕ) → Float → Phase
-phase_by status ρ = cond (eqb status 0) (Ok ρ) (Err (refusal_by status))
+abbrev pub phase_by : (status : ℕ) → Float → Phase
+phase_by status ρ = answer_by status ρ
 
 unfoldable pub density_spot_numbers : DensitySpot → Numbers
 density_spot_numbers First = spot_numbers 1 0 0 0 f0 f0
 density_spot_numbers (Slope n ρ) = spot_numbers 2 n 0 0 ρ f0
 density_spot_numbers (Curvature n ρ error) = spot_numbers 3 n 0 0 ρ error
-density_spot_numbers (NearestSpinodal n way s) = spot_numbers 4 n (nearest_number way) s.rounds s.rho f0
-density_spot_numbers (LiquidSpinodal n way s) = spot_numbers 5 n (both_number way) s.rounds s.rho f0
-density_spot_numbers (VaporSpinodal n way ρl s) = spot_numbers 6 n (both_number way) s.rounds s.rho ρl
+density_spot_numbers (NearestSpinodal n way s) = spot_numbers 4 n (nearest_number way) s.rounds s.at f0
+density_spot_numbers (LiquidSpinodal n way s) = spot_numbers 5 n (both_number way) s.rounds s.at f0
+density_spot_numbers (VaporSpinodal n way ρl s) = spot_numbers 6 n (both_number way) s.rounds s.at ρl
 
 unfoldable pub density_spot_by : Numbers → DensitySpot
 density_spot_by n =
