@@ -31,6 +31,11 @@ use Rattle.reader.specs.Reading.{not_refused, refusal_of}
 abbrev pub OfData : Refusal → Type 0
 OfData refusal = of_data (number_of refusal) ≡ true
 
+-- the search's refusals are from 21 on
+pub of_data_low : (number : ℕ) → of_data number ≡ true → ltb number 21 ≡ true
+unfolding of_data
+of_data_low number e = let h = leb-true number 17 (right_true (leb 11 number) (leb number 17) e) in lt-ltb number 21 (omega arith)
+
 module _ (P : Job → Type 0) where
   check_keeps : (ok : Bool) (refusal : Refusal) (next : Job) → P (refused refusal) → P next → P (check ok refusal next)
   check_keeps true refusal next r h = h

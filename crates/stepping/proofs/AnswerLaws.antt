@@ -14,6 +14,9 @@ use Rattle.stepping.specs.Stepping.{start_of, step_of}
 use Rattle.stepping.specs.States.{state_after, outcome_at}
 use Rattle.stepping.proofs.Laws.{stepping}
 
+pub after_one_more : (job : Job) (k : ℕ) (s s' : State) → s ≡ state_after job k → s' ≡ step_of job s → s' ≡ state_after job (k + 1)
+after_one_more job k s s' e f = let q : k + 1 ≡ suc k = omega arith in rw q (unfold state_after in (f ∙ ap (step_of job) e))
+
 pub answer_stepped : (kind n : ℕ) (block w w' : List ℕ) (job : Job) (m : ℕ) (s : State) (o : Outcome) {u : Unit {0}} → Ok u ≡ fits kind n (length block) (length w)
     → job ≡ view kind n block → m ≡ span_of kind → s ≡ state_after job m → o ≡ outcome_at s → w' ≡ splice w sealed_at (sealed_bytes o)
     → (Ok tt ≡ (answered kind n block w).answer) × (w' ≡ (answered kind n block w).bytes)

@@ -27,7 +27,7 @@ use Rattle.block.proofs.NumberLaws.{numbers_rows}
 use Rattle.reader.specs.View.{initial_of, given_of, task_of, refused, view}
 use Rattle.reader.proofs.ViewLaws.{view_keeps, task_keeps}
 use Rattle.std.specs.Prelude.{Ok, Err}
-use Rattle.stepping.specs.Stepping.{work_of, refused_state, start_by, start_of, uncounted, step_by, step_of}
+use Rattle.stepping.specs.Stepping.{task_search, work_of, refused_state, start_by, start_of, uncounted, step_by, step_of}
 use Rattle.stepping.specs.Storable.{FloatsStorable}
 use Rattle.stepping.proofs.Yields.{YieldsFit}
 use Rattle.stepping.proofs.YieldFloats.{yields_fit}

@@ -25,7 +25,7 @@ use Rattle.records.specs.Span.{CourseWithin, search_within}
 use Rattle.records.proofs.SpanLaws.{job_within}
 use Rattle.schedule.specs.Spans.{span_of}
 use Rattle.std.specs.Prelude.{Ok, Err}
-use Rattle.stepping.specs.Stepping.{Work, work_of, work_in, refused_state, at_end, data_refusal, state_fits, result_of}
+use Rattle.stepping.specs.Stepping.{task_search, Work, work_of, work_in, refused_state, at_end, data_refusal, state_fits, result_of}
 use Rattle.stepping.specs.States.{Request, state_after, outcome_at, Sight, sight_of, sight}
 use Rattle.stepping.specs.Storable.{FloatsStorable, Storable}
 use Rattle.stepping.specs.Laws.{Stepping}

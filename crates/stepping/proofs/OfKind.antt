@@ -11,7 +11,7 @@ use Rattle.reader.specs.declared.types.Refusal.{Refusal}
 use Rattle.reader.specs.View.{task_of, refused, run_blend, view}
 use Rattle.reader.proofs.ViewLaws.{view_keeps, task_by_kind}
 use Rattle.std.specs.Prelude.{Ok, Err}
-use Rattle.stepping.specs.Stepping.{Work, work_of, work_in}
+use Rattle.stepping.specs.Stepping.{task_search, Work, work_of, work_in}
 
 abbrev pub OfKind : ℕ → Work → Type 0
 OfKind kind (Err refusal) = Unit {0}

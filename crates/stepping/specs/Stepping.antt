@@ -9,7 +9,7 @@ use Rattle.solver.specs.Evaluated.{evaluated}
 use Rattle.solver.specs.Stored.{in_ranges}
 use Rattle.solver_density.specs.Density.{conditions_of}
 use Rattle.solver_state.specs.declared.types.State.{State}
-use Rattle.solver_state.specs.declared.types.Job as Search
+use Rattle.solver_state.specs.declared.types.Job.{Job as SearchJob}
 use Rattle.solver_state.specs.declared.types.Job.TheVariants as Search
 use Rattle.solver_state.specs.State as Steps
 use Rattle.reader.specs.declared.types.Job.{Job}
@@ -23,10 +23,10 @@ use Rattle.stepping.specs.declared.types.Ended.{Ended}
 
 -- the search that a job makes, or what it is refused by
 abbrev pub Work : Type 0
-Work = Result Search.Job Refusal
+Work = Result SearchJob Refusal
 
 -- the search that a task makes, from its blend's maximum density, and in kinds 8 and 9 from its fractions
-unfoldable pub task_search : Blend → Task → Search.Job
+unfoldable pub task_search : Blend → Task → SearchJob
 task_search blend (Task.DensityIteration t p initial) = Search.Density (conditions_of (max_density blend) t p initial)
 task_search blend (Task.DensityIterationStable t p) = Search.StableDensity (max_density blend) t p
 task_search blend (Task.PressureSpinodal t start) = Search.PressureSpinodal (max_density blend) t start
