@@ -42,7 +42,7 @@ pub fn get_u64(s: &[u8], at: usize) -> u64
     requires { at + 8 ≤ length s.now }
     ensures { result ≡ u64_at s.now at }
 {
-    let bytes = s[at..].first_chunk().unwrap();
+    let bytes = s[at..].first_chunk::<8>().unwrap();
     u64::from_le_bytes(*bytes)
 }
 

@@ -44,7 +44,3 @@ logarithm_local a (suc k) c d h =
     ap (λ (y : Float). y ⊘ (weight_of (suc k) ⊗ at a 0))
     (less_cong (λ p. (weight_of p ⊗ at c p) ⊗ at a (suc k - p)) (λ p. (weight_of p ⊗ at d p) ⊗ at a (suc k - p)) (weight_of (suc k) ⊗ at a (suc k)) k 1 (suc k)
     (λ q i. let x : at c q ≡ at d q = h q (omega (arith, i.to)) i.under in rw x))
-
--- a rule that reads none of them
-pub free_local : (f : ℕ → Float) → Local (λ c m. f m)
-free_local f m c d h = refl
