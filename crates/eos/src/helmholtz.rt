@@ -16,7 +16,7 @@ use jet_gradient::{add, div, ln, mul, sqrt, sub};
 use std::f64::consts::SQRT_2;
 
 // ak of a component at the temperature t.
-pub fn ak<const W: usize>(t: Jet, tc: f64, kappa: f64, a: f64) -> Jet
+pub(crate) fn ak<const W: usize>(t: Jet, tc: f64, kappa: f64, a: f64) -> Jet
     ensures { Upto W result.c (ak_of t.c tc kappa a) }
 {
     let one = number(1.0);
@@ -34,7 +34,7 @@ fn ak_root<const W: usize>(ai: Jet, aj: Jet) -> Jet
 }
 
 // The term of ak_mix for two components of the fractions xi and xj, with their interaction k and the root of ak_i * ak_j.
-pub fn mix_term<const W: usize>(root: Jet, xi: Jet, xj: Jet, k: f64) -> Jet
+pub(crate) fn mix_term<const W: usize>(root: Jet, xi: Jet, xj: Jet, k: f64) -> Jet
     ensures { Upto W result.c (root.c ⊠ (xi.c ⊠ xj.c ⊠ number_of (f1 ⊖ k))) }
 {
     let x = mul::<W>(xi, xj);
@@ -91,7 +91,7 @@ fn contribute<const W: usize>(density: Jet, ak: Jet, b: Jet, t: Jet) -> Jet
 }
 
 // One component of the mole number moles.
-pub fn alone<const W: usize>(blend: Blend, t: Jet, v: Jet, moles: Jet) -> Mixture
+fn alone<const W: usize>(blend: Blend, t: Jet, v: Jet, moles: Jet) -> Mixture
     ensures { Mixes W blend 1 t.c (partial_density (λ i. moles.c) v.c) result }
 {
     let density = div::<W>(moles, v);

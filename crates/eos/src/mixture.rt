@@ -14,6 +14,19 @@ use crate::types::{Blend, Mixture};
 use jet::{Jet, number};
 use jet_gradient::{add, div, mul, sqrt_from};
 
+// A row of eight jets whose first n are f's.
+fn row<F: Fn(usize) -> Jet>(n: usize, f: F) -> [Jet; 8]
+    requires size { n ≤ 8 }
+    requires callable { (i : ℕ) → i < n → F.pre f i }
+    ensures { (i : ℕ) → i < n → (r : Jet) × F.post f i r × (jet_at result i ≡ r.c) }
+{
+    let mut out = [number(0.0); 8];
+    for i in 0..n {
+        out[i] = f(i);
+    }
+    out
+}
+
 // The sum of the first n of a, from the first term.
 fn sum(n: usize, a: [Jet; 8]) -> Jet
     requires { (1 ≤ n) × (n ≤ 8) }
@@ -53,11 +66,16 @@ fn aks(n: usize, blend: Blend, t: Jet) -> [Jet; 8]
     requires { n ≤ 8 }
     ensures { (i : ℕ) → i < n → Upto 4 (jet_at result i) (ak_of t.c (nth blend.tc i) (nth blend.kappa i) (nth blend.a i)) }
 {
-    let mut out = [number(0.0); 8];
-    for i in 0..n {
-        out[i] = ak::<4>(t, blend.tc[i], blend.kappa[i], blend.a[i]);
-    }
-    out
+    let tc = blend.tc;
+    let kappa = blend.kappa;
+    let a = blend.a;
+    row(
+        n,
+        |i|
+            requires { i < 8 }
+            ensures { Upto 4 result.c (ak_of t.c (nth tc i) (nth kappa i) (nth a i)) }
+        { ak::<4>(t, tc[i], kappa[i], a[i]) },
+    )
 }
 
 // The root of ak_i * ak_j; root is its coefficient at position 0.
@@ -101,11 +119,7 @@ fn densities(n: usize, moles: &[f64; 8], v: Jet) -> [Jet; 8]
     requires { n ≤ 8 }
     ensures { (i : ℕ) → i < n → Upto 4 (jet_at result i) (number_of (nth moles.now i) ⧄ v.c) }
 {
-    let mut out = [number(0.0); 8];
-    for i in 0..n {
-        out[i] = div::<4>(number(moles[i]), v);
-    }
-    out
+    row(n, |i| div::<4>(number(moles[i]), v))
 }
 
 // The first n of a, each over d.
@@ -113,11 +127,7 @@ fn over(n: usize, a: [Jet; 8], d: Jet) -> [Jet; 8]
     requires { n ≤ 8 }
     ensures { (i : ℕ) → i < n → Upto 4 (jet_at result i) (jet_at a i ⧄ d.c) }
 {
-    let mut out = [number(0.0); 8];
-    for i in 0..n {
-        out[i] = div::<4>(a[i], d);
-    }
-    out
+    row(n, |i| div::<4>(a[i], d))
 }
 
 // The first n components, of the blend's fractions.

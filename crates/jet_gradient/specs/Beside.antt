@@ -9,10 +9,6 @@ use Rattle.jet_gradient.specs.declared.Four.{Four}
 unfoldable pub four_at : List Float → ℕ → Four
 four_at a i = record { c0 = at a i; c1 = at a (i + 1); c2 = at a (i + 2); c3 = at a (i + 3) }
 
--- four zeros
-unfoldable pub no_four : Four
-no_four = record { c0 = f0; c1 = f0; c2 = f0; c3 = f0 }
-
 -- the jet of the four along e0, those beside e1, beside e2 and beside e3
 unfoldable pub joined_of : (l u v z : Four) → List Float
 joined_of l u v z =
