@@ -124,7 +124,7 @@ fn choices(kind: u64, n: u64) -> u64
 {
     match Kind::try_from(kind) {
         Ok(Kind::Density) => 3,
-        Ok(Kind::BranchSpinodal) => 2,
+        Ok(Kind::SpinodalBranch) => 2,
         _ if reads_fractions(kind) => 1,
         _ => n,
     }

@@ -13,7 +13,7 @@ pub fn reads_fractions(kind: u64) -> bool
 {
     !matches!(
         Kind::try_from(kind),
-        Ok(Kind::CriticalPoint | Kind::Spinodals)
+        Ok(Kind::CriticalPoint | Kind::StabilitySpinodals)
     )
 }
 
@@ -30,7 +30,7 @@ pub fn optional_temperature(kind: u64) -> bool
 {
     matches!(
         Kind::try_from(kind),
-        Ok(Kind::CriticalPoint | Kind::BinaryCriticalPoint | Kind::CriticalPointAtPressure)
+        Ok(Kind::CriticalPoint | Kind::BlendCriticalPoint | Kind::CriticalPointAtPressure)
     )
 }
 
@@ -48,7 +48,7 @@ fn uses_choice(kind: u64) -> bool
 {
     matches!(
         Kind::try_from(kind),
-        Ok(Kind::Density | Kind::BranchSpinodal)
+        Ok(Kind::Density | Kind::SpinodalBranch)
     ) || !reads_fractions(kind)
 }
 
