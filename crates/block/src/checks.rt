@@ -8,6 +8,7 @@ ghost use Rattle.block.specs.Checks.{positive as positive_of, plus_zero, paramet
 use crate::numbers::{optional_temperature, reads_fractions};
 use crate::types::Conditions;
 use eos::Component;
+use schedule::Kind;
 
 #[tactic(auto, unfolding(crate::specs::Checks::positive))]
 pub fn positive(x: f64) -> bool
@@ -121,9 +122,9 @@ pub fn conditions_fit(kind: u64, c: Conditions) -> bool
 fn choices(kind: u64, n: u64) -> u64
     ensures { result ≡ choices_of kind n }
 {
-    match kind {
-        1 => 3,
-        4 => 2,
+    match Kind::try_from(kind) {
+        Ok(Kind::Density) => 3,
+        Ok(Kind::SpinodalBranch) => 2,
         _ if reads_fractions(kind) => 1,
         _ => n,
     }

@@ -1,16 +1,20 @@
 // Which numbers a job reads, and the conditions.
-// Kinds are numbers here and no `schedule::Kind`: the clauses of `reads_fractions`, `conditions` and the checks say what they answer for any number.
+// A kind comes as its number: the clauses of `reads_fractions`, `conditions` and the checks say what they answer for any number.
 ghost use Rattle.std.specs.Prelude.{◌≡◌, ◌+◌, ◌≤◌, length};
 ghost use Rattle.buf.specs.Bytes.{u64_at, f64_at};
 ghost use Rattle.block.specs.Numbers.{reads_fractions, fraction_count, optional_temperature, optional_start, uses_choice, uses_pressure, uses_start, used_choice, used_pressure, used_start, conditions_of};
 
 use crate::types::Conditions;
+use schedule::Kind;
 
 #[tactic(auto, unfolding(crate::specs::Numbers::reads_fractions))]
 pub fn reads_fractions(kind: u64) -> bool
     ensures { result ≡ reads_fractions kind }
 {
-    !matches!(kind, 5 | 6)
+    !matches!(
+        Kind::try_from(kind),
+        Ok(Kind::CriticalPoint | Kind::StabilitySpinodals)
+    )
 }
 
 #[tactic(auto, unfolding(crate::specs::Numbers::fraction_count))]
@@ -24,23 +28,31 @@ pub fn fraction_count(kind: u64, n: usize) -> usize
 pub fn optional_temperature(kind: u64) -> bool
     ensures { result ≡ optional_temperature kind }
 {
-    matches!(kind, 5 | 7 | 9)
+    matches!(
+        Kind::try_from(kind),
+        Ok(Kind::CriticalPoint | Kind::BlendCriticalPoint | Kind::CriticalPointAtPressure)
+    )
 }
 
 #[tactic(auto, unfolding(crate::specs::Numbers::optional_start))]
 fn optional_start(kind: u64) -> bool
     ensures { result ≡ optional_start kind }
 {
-    kind == 8 || optional_temperature(kind)
+    matches!(Kind::try_from(kind), Ok(Kind::CriticalPointAtTemperature))
+        || optional_temperature(kind)
 }
 
 #[tactic(auto, unfolding(crate::specs::Numbers::uses_choice))]
 fn uses_choice(kind: u64) -> bool
     ensures { result ≡ uses_choice kind }
 {
-    matches!(kind, 1 | 4) || !reads_fractions(kind)
+    matches!(
+        Kind::try_from(kind),
+        Ok(Kind::Density | Kind::SpinodalBranch)
+    ) || !reads_fractions(kind)
 }
 
+// By number, since the definition takes in 0, which no `Kind` has.
 #[tactic(auto, unfolding(crate::specs::Numbers::uses_pressure))]
 fn uses_pressure(kind: u64) -> bool
     ensures { result ≡ uses_pressure kind }
@@ -52,9 +64,9 @@ fn uses_pressure(kind: u64) -> bool
 fn uses_start(kind: u64, choice: u64) -> bool
     ensures { result ≡ uses_start kind choice }
 {
-    match kind {
-        1 => choice == 2,
-        3 => true,
+    match Kind::try_from(kind) {
+        Ok(Kind::Density) => choice == 2,
+        Ok(Kind::PressureSpinodal) => true,
         _ => optional_start(kind),
     }
 }
