@@ -130,7 +130,7 @@ view_not_refused kind n s task rows blend et er eb = rw (eb, et, er)
 -- ---- a request that no check refuses
 
 -- no refusal's number says that there is none
-number_not_0 : (refusal : Refusal) → number_of refusal ≡ 0 → ⊥
+pub number_not_0 : (refusal : Refusal) → number_of refusal ≡ 0 → ⊥
 unfolding number_of
 number_not_0 Refusal.Kind e = omega arith
 number_not_0 Refusal.Count e = omega arith

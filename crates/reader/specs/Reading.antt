@@ -13,9 +13,9 @@ unfoldable pub not_refused : Result Task Refusal → Bool
 not_refused (Ok task) = true
 not_refused (Err refusal) = false
 
--- the number that a task is refused by; 0 where it is not
-unfoldable pub refusal_of : Result Task Refusal → ℕ
-refusal_of (Ok task) = 0
+-- the number that a request is refused by; 0 where it is not
+unfoldable pub refusal_of : {A : Type 0} → Result A Refusal → ℕ
+refusal_of (Ok x) = 0
 refusal_of (Err refusal) = number_of refusal
 
 -- the job's task, and its blend where it is not refused
