@@ -4,11 +4,13 @@ use Prim.Native.Nat.{ℕ, zero, suc, ◌+◌, ◌≤◌, ◌<◌}
 use native.Mathlib.Omega.{arith}
 use native.Mathlib.Nat.{eq-or-lt_of_le, le_of_suc-le-suc}
 use native.Mathlib.Numerals.{add-one}
-use mathlib.Core.Bool.{Bool, true, false, cond, and-true, and-false}
+use mathlib.Core.Bool.{Bool, true, false, cond, ◌&&◌, and-true, and-false}
+use Rattle.std.specs.List.{list_all, range_with_len}
 use mathlib.Core.List.{List}
 use mathlib.Core.Logic.{⊎_elim}
 use lib.ListN.{length, get_or, set, replicate, length-set, length-replicate, get_or-replicate}
 use lib.Dec.{ltb, eqb}
+use Rattle.std.proofs.Math.Bool.{and_assoc}
 use lib.Seq.{get_or-set_same, get_or-set_other, ext_get_or}
 use borrow.Author.Tests.{eqb-true, eqb-false, ltb-true, ltb-false, lt-ltb, le-ltb}
 use Rattle.block.specs.Lists.{tabulate, all_below}
@@ -106,3 +108,20 @@ all_same (suc n) f g h =
     let e = all_same n f g (λ i l. h i (omega arith)) in
     let z = h n (omega arith) in
     rw (e, z)
+
+-- the first test apart
+all_first : (n : ℕ) (test : ℕ → Bool) → test 0 && all_below n (λ i. test (suc i)) ≡ all_below (suc n) test
+unfolding all_below
+all_first zero test = rw and-true
+all_first (suc n) test = sym (and_assoc (test 0) (all_below n (λ i. test (suc i))) (test (suc n))) ∙ ap (λ (b : Bool). b && test (suc n)) (all_first n test)
+
+-- a test of the n numbers from a on, as a chain makes it
+all_from : (a n : ℕ) (test : ℕ → Bool) → list_all test (range_with_len a n) ≡ all_below n (λ i. test (a + i))
+all_from a zero test = unfold all_below in refl
+all_from a (suc n) test =
+    let z : a + 0 ≡ a = omega arith in
+    let e : (i : ℕ) → a + suc i ≡ a + 1 + i = λ i. omega arith in
+    ap (λ (b : Bool). test a && b) (all_from (a + 1) n test) ∙ simp (e, z) at (all_first n (λ i. test (a + i)))
+
+pub all_range : (n : ℕ) (test : ℕ → Bool) → list_all test (range_with_len 0 n) ≡ all_below n test
+all_range n test = let z : (i : ℕ) → 0 + i ≡ i = λ i. omega arith in simp z at (all_from 0 n test)

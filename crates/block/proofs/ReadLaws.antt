@@ -66,9 +66,9 @@ component_numbers n s from i h b =
       (ap (f64_at s) second ∙ place 1 (omega arith), ap (f64_at s) third ∙ place 2 (omega arith)),
     )
 
-pub component_tested : (row : List Float) (i : ℕ) (t p w : Float) (r u : Bool) → (t ≡ at row (3 * i)) × ((p ≡ at row (3 * i + 1)) × (w ≡ at row (3 * i + 2))) → r ≡ component_fits t p w → r ≡ u
+pub component_tested : (row : List Float) (i : ℕ) (t p w : Float) (u : Bool) → (t ≡ at row (3 * i)) × ((p ≡ at row (3 * i + 1)) × (w ≡ at row (3 * i + 2))) → component_fits t p w ≡ u
     → component_test row i ≡ u
-component_tested row i t p w r u e er q = rw (← e.0, ← e.1.0, ← e.1.1, ← er, q)
+component_tested row i t p w u e q = rw (← e.0, ← e.1.0, ← e.1.1, q)
 
 pub component_made : (row : List Float) (i : ℕ) (t p w : Float) (c : Component) → (t ≡ at row (3 * i)) × ((p ≡ at row (3 * i + 1)) × (w ≡ at row (3 * i + 2))) → c ≡ component_of t p w → c ≡ of_row row i
 unfolding of_row

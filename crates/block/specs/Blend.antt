@@ -44,6 +44,23 @@ blend_of n d = record {
   x = tabulate 8 (λ i. at d.fractions i);
 }
 
+-- a blend with the components of a row of numbers
+abbrev pub with_components : ℕ → List Float → Blend → Blend
+with_components n row b = record b {
+  tc = tabulate 8 (λ i. (component_at n row i).tc);
+  a = tabulate 8 (λ i. (component_at n row i).a);
+  b = tabulate 8 (λ i. (component_at n row i).b);
+  kappa = tabulate 8 (λ i. (component_at n row i).kappa);
+}
+
+-- with the interactions of a row
+abbrev pub with_interactions : ℕ → List Float → Blend → Blend
+with_interactions n row b = record b { k_ij = tabulate 64 (λ q. interaction_at n row (q / 8) (q % 8)) }
+
+-- with the fractions of a row
+abbrev pub with_fractions : List Float → Blend → Blend
+with_fractions row b = record b { x = tabulate 8 (λ i. at row i) }
+
 -- no blend
 unfoldable pub empty_blend : Blend
 empty_blend = record { n = 0; tc = replicate 8 f0; a = replicate 8 f0; b = replicate 8 f0; kappa = replicate 8 f0; k_ij = replicate 64 f0; x = replicate 8 f0 }

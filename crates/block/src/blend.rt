@@ -1,27 +1,15 @@
 // The numbers of a blend, read from a block into zeroed arrays, each with its check: 12, 13 and 14.
 ghost use Rattle.std.specs.Prelude.{◌≡◌, ◌+◌, ◌-◌, ◌*◌, ◌/◌, ◌%◌, ◌≤◌, ◌<◌, true, cond, length, replicate};
 ghost use Rattle.float.specs.Ops.{f0, f1};
-ghost use Rattle.buf.specs.Bytes.{f64_at};
-ghost use Rattle.eos.specs.Cubic.{component_of, element_of, alone};
+ghost use Rattle.eos.specs.Cubic.{element_of, alone, pure_of};
 ghost use Rattle.block.specs.Lists.{tabulate};
 ghost use Rattle.block.specs.Numbers.{floats_at, coefficient_count, interaction_count, reads_fractions, fraction_count};
-ghost use Rattle.block.specs.Blend.{at as at_row, component_at, interaction_at, empty_blend};
-ghost use Rattle.block.specs.Checks.{component_fits, components_fit, interactions_fit, fractions_fit};
+ghost use Rattle.block.specs.Blend.{at as at_row, component_at, interaction_at, empty_blend, with_components, with_interactions, with_fractions};
+ghost use Rattle.block.specs.Checks.{components_fit, interactions_fit, fractions_fit};
 
-use crate::checks::{component_fits, fraction_fits};
+use crate::checks::{component, finite_at, fraction_fits};
 use crate::numbers::{fraction_count, reads_fractions};
-use eos::{Blend, Component};
-
-// The component of the three numbers from index from, which fit.
-fn component(block: &[u8], from: usize) -> Component
-    requires { (from + 24 ≤ length block.now) × (component_fits (f64_at block.now from) (f64_at block.now (from + 8)) (f64_at block.now (from + 16)) ≡ true) }
-    ensures { result ≡ component_of (f64_at block.now from) (f64_at block.now (from + 8)) (f64_at block.now (from + 16)) }
-{
-    let critical_temperature = buf::get_finite(block, from);
-    let critical_pressure = buf::get_finite(block, from + 8);
-    let acentric_factor = buf::get_finite(block, from + 16);
-    eos::component(critical_temperature, critical_pressure, acentric_factor)
-}
+use eos::Blend;
 
 pub fn read_components(
     n: usize,
@@ -38,10 +26,9 @@ pub fn read_components(
     let mut i: usize = 0;
     while i < n {
         let from = at + 24 * i;
-        if !component_fits(block, from) {
+        let Some(c) = component(block, from) else {
             return false;
-        }
-        let c = component(block, from);
+        };
         tc[i] = c.tc;
         a[i] = c.a;
         b[i] = c.b;
@@ -51,27 +38,40 @@ pub fn read_components(
     true
 }
 
+// The components into a blend that has none yet. Where one does not fit, the blend is left half read.
+pub fn read_blend_components(n: usize, block: &[u8], at: usize, blend: &mut Blend) -> bool
+    requires { (n ≤ 8) × (at + 24 * n ≤ length block.now) × (blend.old.tc ≡ replicate 8 f0) × (blend.old.a ≡ replicate 8 f0) × (blend.old.b ≡ replicate 8 f0) × (blend.old.kappa ≡ replicate 8 f0) }
+    ensures fits { result ≡ components_fit n (floats_at (coefficient_count n) block.now at) }
+    ensures read { result ≡ true → blend.new ≡ with_components n (floats_at (coefficient_count n) block.now at) blend.old }
+{
+    for i in 0..n {
+        let Some(c) = component(block, at + 24 * i) else {
+            return false;
+        };
+        blend.tc[i] = c.tc;
+        blend.a[i] = c.a;
+        blend.b[i] = c.b;
+        blend.kappa[i] = c.kappa;
+    }
+    true
+}
+
 // The interactions stand by rows, those with the j above i in row i.
+#[tactic(auto, using(crate::proofs::Sizes::place_below))]
 fn read_interactions(n: usize, block: &[u8], at: usize, k_ij: &mut [f64; 64]) -> bool
     requires { (1 ≤ n) × (n ≤ 8) × (at + 4 * (n * (n - 1)) ≤ length block.now) × (k_ij.old ≡ replicate 64 f0) }
     ensures { (result ≡ interactions_fit n (floats_at (interaction_count n) block.now at)) × (result ≡ true → k_ij.new ≡ tabulate 64 (λ q. interaction_at n (floats_at (interaction_count n) block.now at) (q / 8) (q % 8))) }
 {
     let mut place: usize = 0;
-    let mut i: usize = 0;
-    while i < n {
-        let mut j = i + 1;
-        while j < n {
-            let from = at + 8 * place;
-            if !buf::is_finite_at(block, from) {
+    for i in 0..n {
+        for j in i + 1..n {
+            let Some(k) = finite_at(block, at + 8 * place) else {
                 return false;
-            }
-            let k = buf::get_finite(block, from);
+            };
             k_ij[8 * i + j] = k;
             k_ij[8 * j + i] = k;
             place += 1;
-            j += 1;
         }
-        i += 1;
     }
     true
 }
@@ -81,15 +81,7 @@ fn interactions_fit(n: usize, block: &[u8], at: usize) -> bool
     requires { (1 ≤ n) × (n ≤ 8) × (at + 4 * (n * (n - 1)) ≤ length block.now) }
     ensures { result ≡ interactions_fit n (floats_at (interaction_count n) block.now at) }
 {
-    let count = n * (n - 1) / 2;
-    let mut i: usize = 0;
-    while i < count {
-        if !buf::is_finite_at(block, at + 8 * i) {
-            return false;
-        }
-        i += 1;
-    }
-    true
+    (0..n * (n - 1) / 2).all(|i| buf::is_finite_at(block, at + 8 * i))
 }
 
 // The interactions that a kind searches with: those of the whole blend, or none.
@@ -126,13 +118,49 @@ pub fn read_fractions(kind: u64, n: usize, block: &[u8], at: usize, x: &mut [f64
     true
 }
 
+// The interactions that a kind searches with: those of the whole blend, or none.
+pub fn read_blend_interactions(
+    kind: u64,
+    n: usize,
+    block: &[u8],
+    at: usize,
+    blend: &mut Blend,
+) -> bool
+    requires { (1 ≤ n) × (n ≤ 8) × (at + 4 * (n * (n - 1)) ≤ length block.now) × (blend.old.k_ij ≡ replicate 64 f0) }
+    ensures fits { result ≡ interactions_fit n (floats_at (interaction_count n) block.now at) }
+    ensures read { result ≡ true → blend.new ≡ cond (reads_fractions kind) (with_interactions n (floats_at (interaction_count n) block.now at) blend.old) blend.old }
+{
+    if reads_fractions(kind) {
+        read_interactions(n, block, at, &mut blend.k_ij)
+    } else {
+        interactions_fit(n, block, at)
+    }
+}
+
+// The fractions that a kind reads: those of the whole blend, or none.
+pub fn read_blend_fractions(kind: u64, n: usize, block: &[u8], at: usize, blend: &mut Blend) -> bool
+    requires { (n ≤ 8) × (at + 8 * n ≤ length block.now) × (blend.old.x ≡ replicate 8 f0) }
+    ensures fits { result ≡ fractions_fit n (floats_at (fraction_count kind n) block.now at) }
+    ensures read { result ≡ true → blend.new ≡ with_fractions (floats_at (fraction_count kind n) block.now at) blend.old }
+{
+    let count = fraction_count(kind, n);
+    for i in 0..count {
+        let fraction = buf::get_f64(block, at + 8 * i);
+        if !fraction_fits(fraction) {
+            return false;
+        }
+        blend.x[i] = fraction;
+    }
+    true
+}
+
 // Element i of a row comes first and alone.
+#[tactic(auto, unfolding(eos::specs::Cubic::element_of))]
 fn keep_alone(row: &mut [f64; 8], i: usize)
     requires { i < 8 }
     ensures { row.new ≡ alone (element_of row.old i) }
 {
-    let x = row[i];
-    *row = [x, 0.0, 0.0, 0.0, 0.0, 0.0, 0.0, 0.0];
+    *row = [row[i], 0.0, 0.0, 0.0, 0.0, 0.0, 0.0, 0.0];
 }
 
 // Component i comes first and alone, with fraction 1.
@@ -154,6 +182,21 @@ pub fn keep_component(
     *x = [1.0, 0.0, 0.0, 0.0, 0.0, 0.0, 0.0, 0.0];
 }
 
+// Component i alone, with fraction 1.
+#[tactic(auto, unfolding(eos::specs::Cubic::pure_of))]
+pub fn keep_component_alone(i: usize, blend: &mut Blend)
+    requires { (i < 8) × (blend.old.k_ij ≡ replicate 64 f0) }
+    ensures { blend.new ≡ pure_of blend.old i }
+{
+    blend.n = 1;
+    keep_alone(&mut blend.tc, i);
+    keep_alone(&mut blend.a, i);
+    keep_alone(&mut blend.b, i);
+    keep_alone(&mut blend.kappa, i);
+    blend.x = [1.0, 0.0, 0.0, 0.0, 0.0, 0.0, 0.0, 0.0];
+}
+
+#[tactic(auto, unfolding(crate::specs::Blend::empty_blend))]
 pub fn empty() -> Blend
     ensures { result ≡ empty_blend }
 {

@@ -1,4 +1,5 @@
 pub mod Spans
+pub mod Kinds
 pub mod Schedule
 pub mod History
 pub mod Refusals

@@ -1,9 +1,6 @@
-use mathlib.Core.Path.{refl, sym, ap, ◌∙◌}
+use mathlib.Core.Path.{refl, ap}
 use Prim.Native.Nat.{◌*◌}
 use native.Mathlib.Omega.{arith}
-use mathlib.Core.Bool.{true}
-use borrow.Author.Rules.{rules}
-use borrow.Author.Tests.{not-false, not-true}
 use Rattle.float.specs.Ops.{f0}
 use Rattle.eos.specs.declared.types.Component.{Component}
 use Rattle.block.specs.Lists.{all_below}
@@ -19,18 +16,15 @@ loop-i-init c =
     let P = c.requires in
     (omega arith, (refl, (upto_none 8 f0 _ _ P.2, (upto_none 8 f0 _ _ P.3, (upto_none 8 f0 _ _ P.4, upto_none 8 f0 _ _ P.5)))))
 
-pub returns-then-not-component_fits : goal.returns-then-not-component_fits
+pub returns-in_default : goal.returns-in_default
 unfolding components_fit
-returns-then-not-component_fits c =
+returns-in_default c =
     let A = c.args in
     let L = c.loop-i in
     let h = c.loop-i-test.true in
     let row = floats_at (3 * A.n) A.block.now A.at in
     let e = component_numbers A.n A.block.now A.at L.i h c.requires.0 in
-    stopped (all_fails (component_test row) A.n L.i h (component_tested row L.i _ _ _ _ _ e c.component_fits.ensures (not-true _ c.if-not-component_fits.true-raw)))
-
-pub component-c-requires : goal.component-c-requires
-component-c-requires c = (search rules, sym c.component_fits.ensures ∙ not-false _ c.if-not-component_fits.false-raw)
+    stopped (all_fails (component_test row) A.n L.i h (component_tested row L.i _ _ _ _ e (rw c.in_default.is at c.component.ensures)))
 
 pub loop-i-preserved : goal.loop-i-preserved
 loop-i-preserved c =
@@ -39,10 +33,10 @@ loop-i-preserved c =
     let h = c.loop-i-test.true in
     let row = floats_at (3 * A.n) A.block.now A.at in
     let e = component_numbers A.n A.block.now A.at L.i h c.requires.0 in
-    let m = component_made row L.i _ _ _ _ e c.component-c.ensures in (
+    let m = component_made row L.i _ _ _ _ e c.in-Some.ensures.1 in (
       omega arith,
       (
-        all_more (component_test row) L.i L.invariant.1.0 (component_tested row L.i _ _ _ _ _ e c.component_fits.ensures (not-false _ c.if-not-component_fits.false-raw)),
+        all_more (component_test row) L.i L.invariant.1.0 (component_tested row L.i _ _ _ _ e c.in-Some.ensures.0),
         (
           upto_more 8 f0 _ L.i L.tc _ (omega arith) (ap (λ (c : Component). c.tc) m) L.invariant.1.1.0,
           (

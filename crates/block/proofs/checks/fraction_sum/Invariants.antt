@@ -1,6 +1,6 @@
 -- `block::checks::fraction_sum`.
 use mathlib.Core.Path.{◌≡◌}
-use Prim.Native.Nat.{◌-◌, ◌≤◌}
+use Prim.Native.Nat.{◌-◌}
 use Rattle.float.specs.Ops.{◌⊕◌}
 use Rattle.eos.specs.Indices.{fold_from}
 use Rattle.block.specs.Blend.{at}
@@ -8,7 +8,4 @@ use Rattle.block.specs.Checks.{fraction_sum}
 use Rattle.block.proofs.checks.fraction_sum.Given as goal
 
 abbrev pub invariant-loop-i : goal.invariant-loop-i
-invariant-loop-i l = (1 ≤ l.i) × (fold_from (λ s i. s ⊕ at l.x i) (l.n - l.i) l.i l.s ≡ fraction_sum l.n l.x)
-
-abbrev pub decreases-loop-i : goal.decreases-loop-i
-decreases-loop-i l = l.n - l.i
+invariant-loop-i l = fold_from (λ s i. s ⊕ at l.x i) (l.n - l.i) l.i l.s ≡ fraction_sum l.n l.x
