@@ -18,9 +18,9 @@ use Rattle.reader.specs.declared.types.Job.{Job}
 use Rattle.records.specs.Record.{record_bytes}
 use Rattle.schedule.specs.Schedule.{turn_verdict, look_verdict, onward}
 use Rattle.schedule.proofs.Tests.{span_within}
-use Rattle.stepping.specs.declared.types.Work.{Work}
-use Rattle.stepping.specs.declared.types.Work.TheVariants as Work
-use Rattle.stepping.specs.Stepping.{work_in, start_of, step_by, step_of}
+use Rattle.std.specs.Prelude.{Ok, Err}
+use Rattle.reader.specs.declared.types.Refusal.{Refusal}
+use Rattle.stepping.specs.Stepping.{Work, work_in, start_of, step_by, step_of}
 use Rattle.stepping.specs.States.{outcome_at, wrapped}
 use Rattle.stepping.proofs.Kept.{work_next}
 use Rattle.board_spec.specs.Layout.{quarter_length, held_at, turns_at}
@@ -37,17 +37,17 @@ use Rattle.board_spec.proofs.Sim.{length_quarter, quarter_turn, quarter_same}
 
 -- ---- a step as a search under way
 
-work_search : (ev : Evaluator) (w : Work) (search : Search.Job) (s : State) → w ≡ Work.Search search → going search (step_by ev w s) ≡ wrapped (next finite_of ev (going search s))
+work_search : (ev : Evaluator) (w : Work) (search : Search.Job) (s : State) → w ≡ Ok search → going search (step_by ev w s) ≡ wrapped (next finite_of ev (going search s))
 work_search ev w search s e = rw e (work_next ev search s)
 
-one_evaluation : (job : Job) (search : Search.Job) (s : State) → work_in job ≡ Work.Search search
+one_evaluation : (job : Job) (search : Search.Job) (s : State) → work_in job ≡ Ok search
     → going search (step_of job s) ≡ wrapped (next finite_of (evaluated job.blend) (going search s))
 unfolding step_of
 one_evaluation job search s e = work_search _ _ search s e
 
-work_refused : (ev : Evaluator) (w : Work) (number : ℕ) (s : State) → w ≡ Work.Refused number → step_by ev w s ≡ s
+work_refused : (ev : Evaluator) (w : Work) (refusal : Refusal) (s : State) → w ≡ Err refusal → step_by ev w s ≡ s
 unfolding step_by
-work_refused ev w number s e = rw e
+work_refused ev w refusal s e = rw e
 
 -- ---- a turn of the board
 
@@ -103,12 +103,12 @@ module _ (b buffer : Bytes) (queue : ℕ) (s : Serves b buffer queue) where
       one_step : stored b' queue ≡ step_of (job_in b queue) (stored b queue)
       one_step = state_after_lem some n ∙ later_stepped q had
 
-      search_next : (search : Search.Job) → work_in (job_in b queue) ≡ Work.Search search
+      search_next : (search : Search.Job) → work_in (job_in b queue) ≡ Ok search
           → going search (stored b' queue) ≡ wrapped (next finite_of (evaluated (job_in b queue).blend) (going search (stored b queue)))
       search_next search e = ap (going search) one_step ∙ one_evaluation (job_in b queue) search (stored b queue) e
 
-      refused_same : (number : ℕ) → work_in (job_in b queue) ≡ Work.Refused number → stored b' queue ≡ stored b queue
-      refused_same number e = one_step ∙ unfold step_of in (work_refused _ _ number (stored b queue) e)
+      refused_same : (refusal : Refusal) → work_in (job_in b queue) ≡ Err refusal → stored b' queue ≡ stored b queue
+      refused_same refusal e = one_step ∙ unfold step_of in (work_refused _ _ refusal (stored b queue) e)
 
       same_job : job_in b' queue ≡ job_in b queue
       same_job =

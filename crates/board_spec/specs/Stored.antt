@@ -11,7 +11,8 @@ use Rattle.buf.specs.Bytes.{splice}
 use Rattle.reader.specs.declared.types.Job.{Job}
 use Rattle.records.specs.Record.{record_bytes}
 use Rattle.schedule.specs.Spans.{span_of}
-use Rattle.stepping.specs.declared.types.Work.TheVariants as Work
+use Rattle.std.specs.Prelude.{Ok, Err}
+use Rattle.reader.specs.declared.types.Refusal.{Refusal}
 use Rattle.stepping.specs.Stepping.{work_in, start_of, step_of}
 use Rattle.stepping.specs.States.{outcome_at, wrapped}
 use Rattle.board_spec.specs.Quarter.{load_state, first_ticket, first_job}
@@ -43,10 +44,10 @@ pub record Steps (b b' : Bytes) (queue : ℕ) : Type 0 where
   pub same_job : job_in b' queue ≡ job_in b queue
   pub one_turn : turns_in b' queue ≡ turns_in b queue + 1
   -- as a search under way it is the definition's next: what is left, the latest density, and the count modulo 2^64
-  pub search_next : (search : Search.Job) → work_in (job_in b queue) ≡ Work.Search search
+  pub search_next : (search : Search.Job) → work_in (job_in b queue) ≡ Ok search
       → going search (stored b' queue) ≡ wrapped (next finite_of (evaluated (job_in b queue).blend) (going search (stored b queue)))
   -- a job refused by its data stays as it is
-  pub refused_same : (number : ℕ) → work_in (job_in b queue) ≡ Work.Refused number → stored b' queue ≡ stored b queue
+  pub refused_same : (refusal : Refusal) → work_in (job_in b queue) ≡ Err refusal → stored b' queue ≡ stored b queue
 
 -- the span's last turn: "writes the record's 64 bytes, and no others", of the state that is one step from the stored numbers
 pub record Hands (b buffer : Bytes) (queue : ℕ) (d : Did) : Type 0 where
@@ -57,7 +58,7 @@ pub record Hands (b buffer : Bytes) (queue : ℕ) (d : Did) : Type 0 where
 
 pub record StoredOnly : Type 0 where
   -- a step from any state is the definition's: one evaluation of the search that is left there, counted modulo 2^64
-  pub one_evaluation : (job : Job) (search : Search.Job) (s : State) → work_in job ≡ Work.Search search
+  pub one_evaluation : (job : Job) (search : Search.Job) (s : State) → work_in job ≡ Ok search
       → going search (step_of job s) ≡ wrapped (next finite_of (evaluated job.blend) (going search s))
   -- "a later turn's new state is one step of the definition from those stored numbers"
   pub later_turn : (b buffer : Bytes) (queue : ℕ) → Serves b buffer queue → 1 ≤ turns_in b queue → (Last b queue → ⊥) → Steps b (turn_board b buffer).board queue

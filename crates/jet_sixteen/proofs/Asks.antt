@@ -245,11 +245,11 @@ pub data CourseAsks : Course → Type 0 where
   refused_asks : {number : ℕ} → CourseAsks (refused_by number)
   search_asks : {t : Search} → Asks t → CourseAsks (searches t)
 
-task_asks : (blend : Blend) (kind : ℕ) (c : Filed) → kind ≤ 8 → CourseAsks (course_of blend (task_of kind c))
+task_asks : (blend : Blend) (kind : ℕ) (c : Filed) → kind ≤ 8 → CourseAsks (course_of blend (Ok (task_of kind c)))
 unfolding course_of
 task_asks blend kind c =
     let m = max_density blend in
-    task_by_kind (λ kind task. kind ≤ 8 → CourseAsks (course_of blend task)) kind c
+    task_by_kind (λ kind task. kind ≤ 8 → CourseAsks (course_of blend (Ok task))) kind c
     (λ h. search_asks (of_iteration m c.temperature c.pressure (initial_of c.choice c.start)))
     (λ h. search_asks (of_stable m c.temperature c.pressure))
     (λ h. search_asks (of_spinodal m c.temperature c.start))
@@ -263,7 +263,7 @@ pub job_asks : (kind n : ℕ) (s : List ℕ) → kind ≤ 8 → CourseAsks (job_
 unfolding course_of refused
 job_asks kind n s h =
     let d = numbers_of kind n s in
-    view_keeps (λ (job : Job). CourseAsks (job_course job)) kind n s (λ number e. refused_asks) (task_asks (run_blend kind n d) kind d.conditions h)
+    view_keeps (λ (job : Job). CourseAsks (job_course job)) kind n s (λ refusal. refused_asks) (task_asks (run_blend kind n d) kind d.conditions h)
 
 pub end_same : (ev ev' : Evaluator) → ((q : Query) → has_sixteen q ≡ true → ev q ≡ ev' q) → {course : Course} → CourseAsks course → end_of ev course ≡ end_of ev' course
 unfolding end_of

@@ -8,9 +8,9 @@ use lib.ListN.{replicate}
 use lib.Dec.{eqb}
 use lib.Ieee.{Float}
 use borrow.Author.Tests.{ltb-true}
-use Rattle.float.specs.Ops.{f0, f1}
+use Rattle.float.specs.Ops.{f0}
 use Rattle.eos.specs.declared.types.Blend.{Blend}
-use Rattle.eos.specs.Cubic.{blend_by, element_of, alone, pure_of, max_density}
+use Rattle.eos.specs.Cubic.{pure_of, max_density}
 use Rattle.block.specs.declared.types.Conditions.{Conditions}
 use Rattle.block.specs.declared.types.Numbers.{Numbers}
 use Rattle.reader.specs.declared.types.Task.{Task}
@@ -20,33 +20,59 @@ use Rattle.std.specs.Prelude.{Ok, Err}
 use Rattle.std.specs.declared.result.Result.{Result}
 use Rattle.block.specs.Lists.{tabulate}
 use Rattle.block.specs.Pairs.{offset_of, coefficients, interactions, fractions, conditions}
-use Rattle.block.specs.Numbers.{floats_at, reads_fractions, fraction_count, conditions_of, numbers_of}
-use Rattle.block.specs.Blend.{at, component_at, interaction_at, blend_of}
+use Rattle.block.specs.Numbers.{floats_at, reads_fractions, fraction_count, coefficient_count, interaction_count, conditions_of, numbers_of}
+use Rattle.block.specs.Blend.{at, empty_blend, with_components, with_interactions, with_fractions, blend_of}
 use Rattle.block.specs.Checks.{positive, components_fit, interactions_fit, fractions_fit, sum_fits, conditions_fit, choices, choice_fits}
 use Rattle.block.proofs.ReadLaws.{sum_row}
 use Rattle.block.proofs.NumberLaws.{numbers_rows}
 use Rattle.reader.specs.View.{task_of, searched, refused, check, run_fits, last_checks, checked}
-use Rattle.reader.specs.Reading.{not_refused, Reads, searched_count}
+use Rattle.reader.specs.Reading.{not_refused, Reads}
 
--- the blend that is searched, from its rows; where one component is searched the interactions are not read
-pub blend_read : (kind n : ℕ) (s : List ℕ) (i j l choice : ℕ) (tc a b kappa k x : List Float) → i ≡ offset_of s coefficients → j ≡ offset_of s interactions → l ≡ offset_of s fractions
-    → (tc ≡ tabulate 8 (λ q. (component_at n (floats_at (3 * n) s i) q).tc))
-    × (a ≡ tabulate 8 (λ q. (component_at n (floats_at (3 * n) s i) q).a))
-    × (b ≡ tabulate 8 (λ q. (component_at n (floats_at (3 * n) s i) q).b))
-    × (kappa ≡ tabulate 8 (λ q. (component_at n (floats_at (3 * n) s i) q).kappa))
-    → k ≡ cond (reads_fractions kind) (tabulate 64 (λ q. interaction_at n (floats_at (n * (n - 1) / 2) s j) (q / 8) (q % 8))) (replicate 64 f0)
-    → x ≡ tabulate 8 (λ q. at (floats_at (fraction_count kind n) s l) q)
-    → searched kind choice (blend_by n tc a b kappa k x) ≡ searched kind choice (blend_of n (numbers_of kind n s))
-unfolding searched blend_of pure_of
-blend_read kind n s i j l choice tc a b kappa k x ei ej el ec ek ex = go (reads_fractions kind) ek
-  where
-    whole : List Float → Blend
-    whole k = blend_by n tc a b kappa k x
+pub numbered : (n : ℕ) {b : Blend} → b ≡ empty_blend → record b { n = n } ≡ record empty_blend { n = n }
+numbered n e = ap (λ (b : Blend). record b { n = n }) e
 
-    go : (t : Bool) → k ≡ cond t (tabulate 64 (λ q. interaction_at n (floats_at (n * (n - 1) / 2) s j) (q / 8) (q % 8))) (replicate 64 f0)
-        → cond t (whole k) (pure_of (whole k) choice) ≡ cond t (blend_of n (numbers_of kind n s)) (pure_of (blend_of n (numbers_of kind n s)) choice)
-    go true e = rw (numbers_rows kind n s, ec.0, ec.1, ec.2, ec.3, e, ex, ei, ej, el)
-    go false e = rw (numbers_rows kind n s, ec.0, ec.1, ec.2, ec.3, ei)
+-- a blend read part by part into an empty one; where one component is searched the interactions are not read
+module _ (kind n : ℕ) (s : List ℕ) (i : ℕ) {b₀ b₁ : Blend} (e₀ : b₀ ≡ record empty_blend { n = n }) (e₁ : b₁ ≡ with_components n (floats_at (coefficient_count n) s i) b₀) where
+  pub no_interactions : b₁.k_ij ≡ replicate 64 f0
+  unfolding empty_blend
+  no_interactions = rw (e₁, e₀)
+
+  module _ (j : ℕ) {b₂ : Blend} (e₂ : b₂ ≡ cond (reads_fractions kind) (with_interactions n (floats_at (interaction_count n) s j) b₁) b₁) where
+    pub no_fractions : b₂.x ≡ replicate 8 f0
+    unfolding empty_blend
+    no_fractions = rw (e₂, e₁, e₀) (go (reads_fractions kind))
+      where
+        go : (t : Bool) → (cond t (with_interactions n (floats_at (interaction_count n) s j) (with_components n (floats_at (coefficient_count n) s i) (record empty_blend { n = n })))
+            (with_components n (floats_at (coefficient_count n) s i) (record empty_blend { n = n }))).x ≡ replicate 8 f0
+        go true = refl
+        go false = refl
+
+    module _ (l : ℕ) {b₃ : Blend} (e₃ : b₃ ≡ with_fractions (floats_at (fraction_count kind n) s l) b₂) where
+      pub fractions_read : b₃.x ≡ tabulate 8 (λ q. at (floats_at (fraction_count kind n) s l) q)
+      fractions_read = rw e₃
+
+      pub unread : reads_fractions kind ≡ false → b₃.k_ij ≡ replicate 64 f0
+      unfolding empty_blend
+      unread t = rw (e₃, e₂, t, e₁, e₀)
+
+      pub blend_read : (choice : ℕ) → i ≡ offset_of s coefficients → j ≡ offset_of s interactions → l ≡ offset_of s fractions
+          → searched kind choice b₃ ≡ searched kind choice (blend_of n (numbers_of kind n s))
+      unfolding searched blend_of pure_of empty_blend
+      blend_read choice ei ej el = rw (e₃, e₂, e₁, e₀, numbers_rows kind n s, ei, ej, el) (go (reads_fractions kind))
+        where
+          made : Blend
+          made = with_components n (floats_at (coefficient_count n) s (offset_of s coefficients)) (record empty_blend { n = n })
+
+          whole : Blend
+          whole = with_interactions n (floats_at (interaction_count n) s (offset_of s interactions)) made
+
+          row : List Float
+          row = floats_at (fraction_count kind n) s (offset_of s fractions)
+
+          go : (t : Bool) → cond t (with_fractions row (cond t whole made)) (pure_of (with_fractions row (cond t whole made)) choice)
+              ≡ cond t (with_fractions row whole) (pure_of (with_fractions row whole) choice)
+          go true = refl
+          go false = refl
 
 pub conditions_read : (kind n : ℕ) (s : List ℕ) {i : ℕ} {c : Conditions} → i ≡ offset_of s conditions → c ≡ conditions_of kind s i → c ≡ (numbers_of kind n s).conditions
 conditions_read kind n s ei e = rw (numbers_rows kind n s, ← ei) e
@@ -66,10 +92,6 @@ module _ (kind n : ℕ) (s : List ℕ) {i : ℕ} {r t : Bool} where
 pub sum_fit : (kind n : ℕ) (s : List ℕ) {l : ℕ} {x : List Float} {r t : Bool} → 1 ≤ n → n ≤ 8 → l ≡ offset_of s fractions → x ≡ tabulate 8 (λ i. at (floats_at (fraction_count kind n) s l) i) → r ≡ sum_fits kind n x → r ≡ t
     → sum_fits kind n (numbers_of kind n s).fractions ≡ t
 sum_fit kind n s h m el ex er e = rw (numbers_rows kind n s, ← el) (sym (rw ex at er ∙ sum_row kind n _ h m) ∙ e)
-
--- the second row where one component is searched
-pub unread : (kind : ℕ) (read : List Float) → reads_fractions kind ≡ false → cond (reads_fractions kind) read (replicate 64 f0) ≡ replicate 64 f0
-unread kind read t = rw t
 
 -- ---- a refusal, and what is left where there is none
 
@@ -110,34 +132,24 @@ module _ (kind n : ℕ) (c : Conditions) (whole : Blend) (task : Result Task Ref
   unfolding last_checks run_fits
   refused_16 p q e = rw (p, q) (refused_reads Refusal.Choice task rows e)
 
-  pub passed_16 : (made : Task) (blend : Blend) → conditions_fit kind c ≡ true → choice_fits kind n c.choice ≡ true → made ≡ task_of kind c → blend ≡ rows → rows ≡ searched kind c.choice whole
-      → task ≡ (check (positive (max_density blend)) Refusal.Choice (record { task = Ok made; blend = blend })).task → Reads (last_checks kind n c whole) task rows
+  pub passed_16 : (made : Task) → conditions_fit kind c ≡ true → choice_fits kind n c.choice ≡ true → made ≡ task_of kind c → rows ≡ searched kind c.choice whole
+      → task ≡ (check (positive (max_density rows)) Refusal.Choice (record { task = Ok made; blend = rows })).task → Reads (last_checks kind n c whole) task rows
   unfolding last_checks run_fits
-  passed_16 made blend p q em eb er e = rw (p, q, ← er, ← em) (go (positive (max_density rows)) (rw eb at e))
+  passed_16 made p q em er e = rw (p, q, ← er, ← em) (go (positive (max_density rows)) e)
     where
       go : (t : Bool) → task ≡ (check t Refusal.Choice (record { task = Ok made; blend = rows })).task → Reads (check t Refusal.Choice (record { task = Ok made; blend = rows })) task rows
       go true e = (e, λ s. refl)
       go false e = refused_reads Refusal.Choice task rows (unfold refused in e)
 
--- the rows where the whole blend is searched, and where one component is
-module _ (kind n : ℕ) (tc a b kappa k x : List Float) where
-  pub count_whole : (blend : Blend) → reads_fractions kind ≡ true → blend ≡ blend_by n tc a b kappa k x → blend ≡ blend_by (searched_count kind n) tc a b kappa k x
-  unfolding searched_count
-  count_whole blend t e = rw t e
+-- what is searched: the whole blend, or one component
+module _ (kind choice : ℕ) (whole : Blend) where
+  pub whole_searched : reads_fractions kind ≡ true → whole ≡ searched kind choice whole
+  unfolding searched
+  whole_searched t = rw t
 
-  pub count_alone : (blend : Blend) → reads_fractions kind ≡ false → blend ≡ blend_by 1 tc a b kappa k x → blend ≡ blend_by (searched_count kind n) tc a b kappa k x
-  unfolding searched_count
-  count_alone blend t e = rw t e
-
-  pub rows_whole : (choice : ℕ) → reads_fractions kind ≡ true → blend_by (searched_count kind n) tc a b kappa k x ≡ searched kind choice (blend_by n tc a b kappa k x)
-  unfolding searched searched_count
-  rows_whole choice t = rw t
-
-  pub rows_alone : (choice : ℕ) (tc' a' b' kappa' x' : List Float) → reads_fractions kind ≡ false → k ≡ replicate 64 f0 → tc' ≡ alone (element_of tc choice) → a' ≡ alone (element_of a choice)
-      → b' ≡ alone (element_of b choice) → kappa' ≡ alone (element_of kappa choice) → x' ≡ alone f1
-      → blend_by (searched_count kind n) tc' a' b' kappa' k x' ≡ searched kind choice (blend_by n tc a b kappa k x)
-  unfolding searched searched_count pure_of
-  rows_alone choice tc' a' b' kappa' x' t ek et ea eb eq ex = rw (t, et, ea, eb, eq, ex, ek)
+  pub alone_searched : (rows : Blend) → reads_fractions kind ≡ false → rows ≡ pure_of whole choice → rows ≡ searched kind choice whole
+  unfolding searched
+  alone_searched rows t e = rw t e
 
 -- a component that may be chosen is one of eight
 pub choice_below : (kind n choice : ℕ) → n ≤ 8 → choice_fits kind n choice ≡ true → choice < 8

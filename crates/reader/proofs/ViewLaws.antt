@@ -122,15 +122,10 @@ unfolding not_refused
 not_refused_left (Ok task) h = refl
 not_refused_left (Err refusal) h = absurd (h refusal refl)
 
--- a job from its task and the rows of its blend
-pub view_not_refused : (kind n : ℕ) (s : List ℕ) (task : Result Task Refusal) (rows blend : Blend) → task ≡ (view kind n s).task → rows ≡ (view kind n s).blend → blend ≡ rows
-    → ◌≡◌ {A = Job} (record { task = task; blend = blend }) (view kind n s)
-view_not_refused kind n s task rows blend et er eb = rw (eb, et, er)
-
 -- ---- a request that no check refuses
 
 -- no refusal's number says that there is none
-number_not_0 : (refusal : Refusal) → number_of refusal ≡ 0 → ⊥
+pub number_not_0 : (refusal : Refusal) → number_of refusal ≡ 0 → ⊥
 unfolding number_of
 number_not_0 Refusal.Kind e = omega arith
 number_not_0 Refusal.Count e = omega arith

@@ -4,5 +4,5 @@
 mod requests;
 mod types;
 
-pub use crate::requests::{of_data, read, searched_count, view};
+pub use crate::requests::{of_data, read, view};
 pub use crate::types::{Job, Refusal, Task};

@@ -21,8 +21,8 @@ module _ (begun : Bool) (stored : State) where
   same_step (Err refusal) rows b h = refl
   same_step (Ok task) rows b h = ap (step_on (Ok task)) (h refl)
 
-  pub step_read : (job : Job) (task : Result Task Refusal) (rows blend : Blend) (w : Work) (from r : State) → Reads job task rows → blend ≡ rows → w ≡ work_of blend task
+  pub step_read : (job : Job) (task : Result Task Refusal) (blend : Blend) (w : Work) (from r : State) → Reads job task blend → w ≡ work_of blend task
       → from ≡ cond begun stored (start_by w) → r ≡ step_by (evaluated blend) w from → r ≡ step_of job (cond begun stored (start_of job))
   unfolding step_of start_of
-  step_read job task rows blend w from r h eb ew ef er =
-      er ∙ rw (ef, ew, eb) (same_step task rows job.blend h.1 ∙ ap (λ (t : Result Task Refusal). step_on t job.blend) h.0)
+  step_read job task blend w from r h ew ef er =
+      er ∙ rw (ef, ew) (same_step task blend job.blend h.1 ∙ ap (λ (t : Result Task Refusal). step_on t job.blend) h.0)

@@ -166,24 +166,8 @@ fn state_of(work: Work, begun: bool, stored: State) -> State
 pub fn step_request(kind: u64, n: u64, block: &[u8], begun: bool, stored: State) -> State
     ensures { result ≡ step_of (view kind n block.now) (if begun then stored else start_of (view kind n block.now)) }
 {
-    let mut tc = [0.0; 8];
-    let mut a = [0.0; 8];
-    let mut b = [0.0; 8];
-    let mut kappa = [0.0; 8];
-    let mut k_ij = [0.0; 64];
-    let mut x = [0.0; 8];
-    let task = reader::read(
-        kind, n, block, &mut tc, &mut a, &mut b, &mut kappa, &mut k_ij, &mut x,
-    );
-    let blend = eos::blend(
-        reader::searched_count(kind, n),
-        &tc,
-        &a,
-        &b,
-        &kappa,
-        &k_ij,
-        &x,
-    );
+    let mut blend = block::empty();
+    let task = reader::read(kind, n, block, &mut blend);
     let work = work(blend, task);
     step_by(blend, work, state_of(work, begun, stored))
 }

@@ -22,8 +22,14 @@ use Rattle.block.proofs.Lists.{length_tabulate, get_d_tabulate}
 use Rattle.block.proofs.Sizes.{product}
 use Rattle.reader.specs.declared.types.Job.{Job}
 use Rattle.reader.specs.View.{refused, ready_job, checked, view}
+use Rattle.std.specs.Prelude.{Ok, Err}
+use Rattle.std.specs.declared.result.Result.{Result}
+use Rattle.std.specs.Result.{IsErrAnd}
+use Rattle.reader.specs.declared.types.Refusal.{Refusal}
+use Rattle.reader.specs.declared.types.Task.{Task}
+use Rattle.reader.specs.Refusals.{number_of}
 use Rattle.reader.specs.Reading.{refusal_of}
-use Rattle.reader.proofs.ViewLaws.{Passed, requested_passed, ready_no_number}
+use Rattle.reader.proofs.ViewLaws.{number_not_0, Passed, requested_passed, ready_no_number}
 use Rattle.records.proofs.RecordLaws.{sealed_alike}
 use Rattle.writer.specs.Packed.{filled, packed}
 use Rattle.writer.specs.Written.{counts_fit, lists_fit, verdict, written}
@@ -44,7 +50,7 @@ unfolding verdict
 verdict_data kind n d k c f = rw (k, c, f)
 
 pub as_the_reader : AsTheReader
-unfolding verdict view refusal_of refused
+unfolding verdict view refusal_of refused number_of
 as_the_reader kind n d f m = go (kind_fits kind) refl (count_fits kind n) refl
   where
     go : (s : Bool) → kind_fits kind ≡ s → (t : Bool) → count_fits kind n ≡ t → verdict kind n d 640 ≡ refusal_of (view kind n (packed n d)).task
@@ -55,7 +61,7 @@ as_the_reader kind n d f m = go (kind_fits kind) refl (count_fits kind n) refl
 -- ---- what comes before the data
 
 pub ordered : Ordered
-unfolding verdict refusal_of refused
+unfolding verdict refusal_of refused number_of
 ordered kind n d size = record {
   refused_2 = λ k. rw k;
   refused_3 = λ k c. rw (k, c);
@@ -140,18 +146,21 @@ module _ (kind n : ℕ) (d : Numbers) (buffer : List ℕ) where
       → number ≡ verdict kind n d (length buffer)
   numbered number block l f m eb en = en ∙ ap (λ (s : List ℕ). refusal_of (view kind n s).task) eb ∙ sym (as_the_reader kind n d f m) ∙ ap (verdict kind n d) (sym l)
 
-  -- and a refusal where it is not 0
-  pub refuses_data : (number : ℕ) (block : List ℕ) → length buffer ≡ 640 → lists_fit n d ≡ true → Representable d → block ≡ packed n d
-      → number ≡ refusal_of (view kind n block).task → (number ≡ 0 → ⊥) → Answers kind n d buffer number buffer
-  unfolding written
-  refuses_data number block l f m eb en z = let e = numbered number block l f m eb en in (e, kept _ _ _ (ap (λ (k : ℕ). eqb k 0) (sym e) ∙ ne_eqb number 0 z), λ q. absurd (z q))
+  -- and a refusal where it is one
+  pub refuses_data : (told : Result (Unit {0}) Refusal) {refusal : Refusal} (block : List ℕ) → length buffer ≡ 640 → lists_fit n d ≡ true → Representable d → block ≡ packed n d
+      → Err refusal ≡ (view kind n block).task → IsErrAnd told (λ y. y ≡ refusal) → Answers kind n d buffer (refusal_of told) buffer
+  unfolding written refusal_of
+  refuses_data (Ok _) block l f m eb en h = elim h [ ]
+  refuses_data (Err y) {refusal} block l f m eb en h =
+      let e = numbered (number_of y) block l f m eb (ap number_of h ∙ ap refusal_of en) in
+      (e, kept _ _ _ (ap (λ (k : ℕ). eqb k 0) (sym e) ∙ ne_eqb (number_of y) 0 (number_not_0 y)), λ q. absurd (number_not_0 y q))
 
   -- else the block
-  pub writes : (number : ℕ) (block bytes : List ℕ) → count_fits kind n ≡ true → length buffer ≡ 640 → lists_fit n d ≡ true → Representable d → block ≡ packed n d
-      → number ≡ refusal_of (view kind n block).task → number ≡ 0 → bytes ≡ splice buffer 0 block → Answers kind n d buffer 0 bytes
-  unfolding written
-  writes number block bytes c l f m eb en z ew =
-      let e : 0 ≡ verdict kind n d (length buffer) = sym z ∙ numbered number block l f m eb en in
+  pub writes : (task : Task) (block bytes : List ℕ) → count_fits kind n ≡ true → length buffer ≡ 640 → lists_fit n d ≡ true → Representable d → block ≡ packed n d
+      → Ok task ≡ (view kind n block).task → bytes ≡ splice buffer 0 block → Answers kind n d buffer 0 bytes
+  unfolding written refusal_of
+  writes task block bytes c l f m eb en ew =
+      let e : 0 ≡ verdict kind n d (length buffer) = numbered 0 block l f m eb (ap refusal_of en) in
       let size = length_packed n d f (count_within kind n c).high in
       (e, ew ∙ ap (splice buffer 0) eb ∙ over buffer (packed n d) (size ∙ sym l) ∙ made _ _ _ (ap (λ (k : ℕ). eqb k 0) (sym e)), λ _. what_was_given kind n d buffer m (sym e))
 

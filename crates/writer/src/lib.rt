@@ -4,4 +4,4 @@
 mod packing;
 mod writing;
 
-pub use crate::writing::write_block;
+pub use crate::writing::{number, write_block};

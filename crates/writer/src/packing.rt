@@ -69,10 +69,8 @@ fn put_floats(block: &mut [u8], at: usize, list: &[f64])
     requires { at + 8 * length list.now ≤ length block.old }
     ensures { (block.new ≡ splice block.old at (floats_bytes list.now)) × (Binary64 list.now) }
 {
-    let mut i: usize = 0;
-    while i < list.len() {
+    for i in 0..list.len() {
         put_float(block, at + 8 * i, list[i]);
-        i += 1;
     }
 }
 

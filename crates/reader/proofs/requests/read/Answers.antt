@@ -29,8 +29,7 @@ returns-then-not-pairs_fit c = rw (sym c.kind_fits.ensures ∙ not-false _ c.if-
 pub checked-requires : goal.checked-requires
 checked-requires c =
     let w = count_within _ _ (sym c.count_fits.ensures ∙ not-false _ c.if-not-count_fits.false-raw) in
-    let z = c.requires in
-    (w.low, w.high, c.if-block-ne640.false, sym c.pairs_fit.ensures ∙ not-false _ c.if-not-pairs_fit.false-raw, z.0, z.1, z.2, z.3, z.4, z.5)
+    (w.low, w.high, c.if-block-ne640.false, sym c.pairs_fit.ensures ∙ not-false _ c.if-not-pairs_fit.false-raw, c.requires)
 
 pub returns : goal.returns
 unfolding view

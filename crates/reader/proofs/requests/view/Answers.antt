@@ -1,6 +1,6 @@
 -- `reader::requests::view`.
 use mathlib.Core.Path.{sym, ◌∙◌}
-use Rattle.reader.proofs.ViewLaws.{view_not_refused, view_refused, not_refused_left}
+use Rattle.reader.proofs.ViewLaws.{view_refused, not_refused_left}
 use Rattle.reader.proofs.requests.view.Goals as goal
 
 pub returns-in-Err : goal.returns-in-Err
@@ -9,4 +9,4 @@ returns-in-Err c = c.refused.ensures ∙ view_refused _ _ _ _ (sym c.in-Err.is �
 pub returns : goal.returns
 returns c =
     let r = c.read-task.ensures in
-    view_not_refused _ _ _ _ _ _ r.0 (r.1 (not_refused_left _ c.in_default.not-Err)) (rw c.searched_count.ensures at c.blend-blend.ensures)
+    rw (r.0, r.1 (not_refused_left _ c.in_default.not-Err))

@@ -11,22 +11,19 @@ use Rattle.writer.proofs.PutLaws.{float_step, floats_put, before_next, before_al
 use Rattle.writer.proofs.packing.put_floats.Goals as goal
 
 pub loop-i-init : goal.loop-i-init
-loop-i-init c = (omega arith, (simp add-zero, (refl, λ k h. absurd (omega arith))))
+loop-i-init c = (simp add-zero, (refl, λ k h. absurd (omega arith)))
 
 pub loop-i-preserved : goal.loop-i-preserved
 loop-i-preserved c =
     let A = c.args in
     let L = c.loop-i in
     let E = c.put_float.ensures in (
-      omega arith,
-      (
-        ap (λ (s : List ℕ). splice s (A.at + 8 * (L.i + 1)) (floats_bytes (drop (L.i + 1) A.list.now))) E.0 ∙ sym (float_step L.block A.list.now A.at L.i _ (omega arith) refl) ∙ L.invariant.1.0,
-        (ap length E.0 ∙ length_put_num 8 L.block _ _ ∙ L.invariant.1.1.0, before_next A.list.now L.i _ refl E.1 L.invariant.1.1.1),
-      ),
+      ap (λ (s : List ℕ). splice s (A.at + 8 * (L.i + 1)) (floats_bytes (drop (L.i + 1) A.list.now))) E.0 ∙ sym (float_step L.block A.list.now A.at L.i _ (omega arith) refl) ∙ L.invariant.0,
+      (ap length E.0 ∙ length_put_num 8 L.block _ _ ∙ L.invariant.1.0, before_next A.list.now L.i _ refl E.1 L.invariant.1.1),
     )
 
 pub returns : goal.returns
 returns c =
     let A = c.args in
     let L = c.loop-i in
-    (floats_put L.block _ A.list.now A.at L.i (omega arith) L.invariant.1.0, before_all A.list.now L.i (omega arith) L.invariant.1.1.1)
+    (floats_put L.block _ A.list.now A.at _ (omega arith) L.invariant.0, before_all A.list.now _ (omega arith) L.invariant.1.1)

@@ -8,7 +8,4 @@ use Rattle.writer.proofs.PutLaws.{Before}
 use Rattle.writer.proofs.packing.put_floats.Given as goal
 
 abbrev pub invariant-loop-i : goal.invariant-loop-i
-invariant-loop-i l = (l.i ≤ length l.list) × ((splice l.block (l.at + 8 * l.i) (floats_bytes (drop l.i l.list)) ≡ splice l.initial.block l.at (floats_bytes l.list)) × ((length l.block ≡ length l.initial.block) × Before l.list l.i))
-
-abbrev pub decreases-loop-i : goal.decreases-loop-i
-decreases-loop-i l = length l.list - l.i
+invariant-loop-i l = (splice l.block (l.at + 8 * l.i) (floats_bytes (drop l.i l.list)) ≡ splice l.initial.block l.at (floats_bytes l.list)) × ((length l.block ≡ length l.initial.block) × Before l.list l.i)
