@@ -40,7 +40,8 @@ use Rattle.solver_step.specs.declared.types.StableSpot.TheVariants.{LiquidSearch
 use Rattle.solver_step.specs.SpinodalStep.{spinodal_on, spinodal_start, spinodal_next, branch_place, branch_begin, branch_next}
 use Rattle.solver_step.specs.DensityStep.{phase_answer, slope_at, arrived_at, slope_on, first_on, nearest_on, vapor_on, liquid_on, detour_at, curvature_on, density_next, density_begin}
 use Rattle.solver_step.specs.StableStep.{phases_on, vapor_search_on, liquid_potential_on, vapor_potential_on, of_liquid, of_vapor, liquid_search_on, stable_next, stable_begin}
-use Rattle.solver_step.specs.Stored.{nearest_number, both_number, spot_numbers, spinodal_numbers, density_spot_numbers, density_numbers, staged, potential_numbers, stable_numbers}
+use Rattle.solver_density.specs.Ways.{nearest_number, both_number}
+use Rattle.solver_step.specs.Stored.{spot_numbers, spinodal_numbers, density_spot_numbers, density_numbers, staged, potential_numbers, stable_numbers}
 
 -- ---- spinodal searches: fewer than 50 rounds left
 data Few : Progress SpinodalSpot → Type 0 where

@@ -22,7 +22,8 @@ use Rattle.solver_step.specs.declared.types.DensitySpot.TheVariants.{First, Slop
 use Rattle.solver_step.specs.declared.types.StableSpot.TheVariants.{LiquidSearch, VaporSearch, LiquidPotential, VaporPotential}
 use Rattle.solver_step.specs.declared.types.StableSpot.{StableSpot}
 use Rattle.solver_step.specs.DensityStep.{phase_answer}
-use Rattle.solver_step.specs.Stored.{nearest_number, nearest_by, both_number, both_by, spot_numbers, spinodal_numbers, spinodal_spot_by, spinodal_place_by, phase_by, density_spot_numbers, density_spot_by, density_numbers, density_place_by, staged, potential_numbers, stable_numbers, stable_spot_by, stable_place_by}
+use Rattle.solver_density.specs.Ways.{nearest_number, nearest_by, both_number, both_by}
+use Rattle.solver_step.specs.Stored.{spot_numbers, spinodal_numbers, spinodal_spot_by, spinodal_place_by, density_spot_numbers, density_spot_by, density_numbers, density_place_by, staged, potential_numbers, stable_numbers, stable_spot_by, stable_place_by, phase_by}
 
 pub spinodal_back : (p : Progress SpinodalSpot) → spinodal_place_by (spinodal_numbers p) ≡ p
 unfolding spinodal_place_by spinodal_spot_by spinodal_numbers ended_numbers spot_numbers

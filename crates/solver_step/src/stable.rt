@@ -87,6 +87,7 @@ fn vapor_potential_on(
 }
 
 // the one evaluation at a spot, and where it leads
+// The three numbers stand apart, as solver_state's job of kind 2 has them; a struct of them would be made only to be taken apart.
 #[tactic(auto, unfolding(crate::specs::StableStep::stable_next, solver::specs::Evaluated::evaluated))]
 pub fn stable_next(
     blend: Blend,
