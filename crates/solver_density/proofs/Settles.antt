@@ -7,7 +7,7 @@ use Rattle.float.specs.Sign.{finite_of, negative_of}
 use Rattle.evaluations.specs.declared.types.Pressure.{Pressure}
 use Rattle.solver.specs.declared.types.Refusal.TheVariants.{NotFinite}
 use Rattle.solver.specs.Answer.{Answer}
-use Rattle.std.specs.Prelude.{Ok, Err}
+use Rattle.std.specs.Prelude.{Err}
 use Rattle.solver.specs.Search.{Search, done, refuse, tested, bind, settle}
 use Rattle.solver.proofs.Turns.{led}
 use Rattle.solver.proofs.Steps.{settle_tested, settled, cond_both, settled_bind}

@@ -28,7 +28,7 @@ use Rattle.std.specs.declared.ops.ControlFlow.TheVariants.{Break, Continue}
 use Rattle.std.specs.Prelude.{Ok, Err}
 use Rattle.solver_step.specs.declared.types.DensitySpot.{DensitySpot}
 use Rattle.solver_step.specs.declared.types.DensitySpot.TheVariants.{First, Slope, Curvature, NearestSpinodal, LiquidSpinodal, VaporSpinodal}
-use Rattle.solver_step.specs.Phase.{Phase, Standing}
+use Rattle.solver_step.specs.Phase.{Standing}
 use Rattle.solver_step.specs.SpinodalStep.{spinodal_start, resume_spinodal, spinodal_left, branch_begin, resume_branch, branch_left}
 use Rattle.solver_step.specs.DensityStep.{phase_answer, slope_at, arrived_at, slope_on, go_on, resume_density, density_left, density_at, first_on, nearest_on, vapor_on, liquid_on, detour_at, curvature_on, density_next, density_begin}
 use Rattle.solver_step.proofs.SpinodalLaw.{spinodal_law, spinodal_begins, spinodal_asks2, branch_law, branch_begins, branch_asks2}

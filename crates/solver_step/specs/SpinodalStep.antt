@@ -1,5 +1,5 @@
 -- Kinds 3 and 4 one evaluation at a time: what is left at a spot, and where its evaluation leads. Definitions only.
-use Rattle.std.specs.Prelude.{ℕ, zero, suc, cond, Float}
+use Rattle.std.specs.Prelude.{ℕ, suc, cond, Float}
 use Rattle.std.specs.Float.Ieee.{le}
 use Rattle.float.specs.Ops.{f0}
 use Rattle.solver.specs.declared.types.Refusal.TheVariants.{StartNotPositive, NotConverged}
