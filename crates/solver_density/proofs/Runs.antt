@@ -12,7 +12,7 @@ use Rattle.evaluations.specs.Residual.{p_dpdrho, p_dpdrho_d2pdrho2, chemical_pot
 use Rattle.solver.specs.declared.types.DensityInitialization.TheVariants.{Vapor, Liquid}
 use Rattle.solver.specs.declared.types.Values.{Values}
 use Rattle.solver.specs.declared.types.Refusal.TheVariants.{NotConverged, NotFinite}
-use Rattle.solver.specs.Answer.{Answer}
+use Rattle.solver.specs.Answer.{Answer, Progress}
 use Rattle.std.specs.Prelude.{Err}
 use Rattle.solver.specs.declared.types.Ran.{Ran}
 use Rattle.solver.specs.Search.{Search, refuse, and_then, run, settle}
@@ -23,7 +23,6 @@ use Rattle.solver.proofs.Turns.{led, runs_rounds}
 use Rattle.solver.proofs.Steps.{settled}
 use Rattle.solver_density.specs.declared.types.Conditions.{Conditions}
 use Rattle.solver_density.specs.declared.types.Detour.{Detour}
-use Rattle.solver.specs.Answer.{Progress}
 use Rattle.solver_density.specs.declared.types.SlopeOutcome.{SlopeOutcome}
 use Rattle.solver_density.specs.Spinodal.{tested3, spinodal_from}
 use Rattle.solver_density.specs.Density.{corrected, detour_of, detour, unstable, density_from, first_round, density_search, density_iteration}

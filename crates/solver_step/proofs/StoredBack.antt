@@ -7,12 +7,11 @@ use lib.Dec.{eqb}
 use Rattle.float.specs.Ops.{f0}
 use Rattle.solver.specs.declared.types.Refusal.TheVariants.{StartNotPositive, NotConverged, IterationFailed, BothPhasesFailed, WrongBranch, Supercritical, NotFinite}
 use Rattle.solver.specs.declared.types.Numbers.{Numbers}
-use Rattle.solver.specs.Answer.{number_of, status_of, values_of}
+use Rattle.solver.specs.Answer.{number_of, status_of, values_of, Progress}
 use Rattle.solver.specs.Stored.{refusal_by, answer_by, ended_numbers}
 use Rattle.solver.proofs.StoredBack.{answer_back}
 use Rattle.solver_density.specs.declared.types.Nearest.TheVariants.{HighDensity, AboveConvex, BelowConcave}
 use Rattle.solver_density.specs.declared.types.Both.TheVariants.{BelowConvex, AboveConcave}
-use Rattle.solver.specs.Answer.{Progress}
 use Rattle.solver_step.specs.SpinodalStep.{SpinodalSpot}
 use Rattle.std.specs.declared.ops.ControlFlow.TheVariants.{Break, Continue}
 use Rattle.solver_step.specs.Phase.{Phase, Standing}

@@ -2,11 +2,10 @@
 use Rattle.std.specs.Prelude.{ℕ, cond, Float, eqb}
 use Rattle.float.specs.Ops.{f0}
 use Rattle.solver.specs.declared.types.Numbers.{Numbers}
-use Rattle.solver.specs.Answer.{status_of, values_of}
+use Rattle.solver.specs.Answer.{status_of, values_of, Progress}
 use Rattle.solver.specs.Stored.{answer_by, ended_numbers}
 use Rattle.solver_density.specs.Ways.{nearest_number, nearest_by, both_number, both_by}
 use Rattle.solver_step.specs.SpinodalStep.{SpinodalSpot}
-use Rattle.solver.specs.Answer.{Progress}
 use Rattle.std.specs.declared.ops.ControlFlow.TheVariants.{Break, Continue}
 use Rattle.solver_step.specs.Phase.{Phase, Standing}
 use Rattle.solver_step.specs.declared.types.DensitySpot.{DensitySpot}
