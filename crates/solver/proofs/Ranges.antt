@@ -6,11 +6,10 @@ use mathlib.Core.Bool.{Bool, true, false, ◌&&◌}
 use borrow.Author.Tests.{lt-ltb, ltb-true}
 use lib.Dec.{ltb}
 use Rattle.solver.specs.declared.types.Refusal.TheVariants.{StartNotPositive, NotConverged, IterationFailed, BothPhasesFailed, WrongBranch, Supercritical, NotFinite}
-use Rattle.solver.specs.Answer.{Answer}
+use Rattle.solver.specs.Answer.{Answer, number_of, status_of}
 use Rattle.std.specs.Prelude.{Ok, Err}
 use Rattle.solver.specs.declared.types.Counters.{Counters}
 use Rattle.solver.specs.declared.types.Numbers.{Numbers}
-use Rattle.solver.specs.Answer.{number_of, status_of}
 use Rattle.solver.specs.Stored.{ended_numbers, status_fits, counters_below}
 
 abbrev pub FitsBelow : (most : ℕ) → Numbers → Type 0

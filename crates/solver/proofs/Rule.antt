@@ -7,10 +7,9 @@ use mathlib.Core.Bool.{Bool, true, false, cond, not, ◌&&◌, ◌||◌}
 use lib.Ieee.{Float}
 use Rattle.float.specs.Sign.{finite_of}
 use Rattle.solver.specs.declared.types.Values.{Values}
-use Rattle.solver.specs.Answer.{Answer}
+use Rattle.solver.specs.Answer.{Answer, number_of, status_of, is27}
 use Rattle.std.specs.Prelude.{Ok, Err}
 use Rattle.solver.specs.declared.types.Ran.{Ran}
-use Rattle.solver.specs.Answer.{number_of, status_of, is27}
 use Rattle.solver.specs.Search.{Query, Yield, Evaluator, Search, done, ask, test, tested, bind, on_found, and_then, run, clean, answer_of, found_and, Ruled}
 use Rattle.solver.proofs.Runs.{run_from, run_bind}
 

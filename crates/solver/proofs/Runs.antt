@@ -10,10 +10,9 @@ use Rattle.solver.specs.declared.types.Values.{Values}
 use Rattle.solver.specs.declared.types.Refusal.{Refusal}
 use Rattle.solver.specs.declared.types.Refusal.TheVariants.{NotFinite}
 use Rattle.solver.specs.Answer.{Answer}
-use Rattle.std.specs.Prelude.{Ok, Err}
+use Rattle.std.specs.Prelude.{Ok, Err, MatchResult}
 use Rattle.solver.specs.declared.types.Ran.{Ran}
 use Rattle.solver.specs.Search.{Evaluator, Search, done, ask, test, refuse, tested, bind, on_found, and_then, run, settle, Within}
-use Rattle.std.specs.Prelude.{MatchResult}
 use Rattle.solver.specs.Evaluated.{evaluated}
 use Rattle.solver.specs.Rounds.{Follows, FollowsAnswer}
 use Rattle.solver.proofs.Spans.{run_most}

@@ -1,9 +1,8 @@
 -- An answer that is stored is read back. Assumes nothing.
 use mathlib.Core.Path.{◌≡◌, refl}
 use Rattle.solver.specs.declared.types.Refusal.TheVariants.{StartNotPositive, NotConverged, IterationFailed, BothPhasesFailed, WrongBranch, Supercritical, NotFinite}
-use Rattle.solver.specs.Answer.{Answer}
+use Rattle.solver.specs.Answer.{Answer, number_of, status_of, values_of}
 use Rattle.std.specs.Prelude.{Ok, Err}
-use Rattle.solver.specs.Answer.{number_of, status_of, values_of}
 use Rattle.solver.specs.Stored.{refusal_by, answer_by}
 
 pub answer_back : (a : Answer) → answer_by (status_of a) (values_of a) ≡ a

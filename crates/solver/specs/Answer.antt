@@ -1,12 +1,11 @@
 -- An answer as document 01's record states it: a status and three floats. Definitions only.
-use Rattle.std.specs.Prelude.{ℕ, Bool, eqb}
+use Rattle.std.specs.Prelude.{ℕ, Bool, eqb, Ok, Err}
 use Rattle.float.specs.Ops.{f0}
 use Rattle.solver.specs.declared.types.Values.{Values}
 use Rattle.solver.specs.declared.types.Refusal.{Refusal}
 use Rattle.solver.specs.declared.types.Refusal.TheVariants.{StartNotPositive, NotConverged, IterationFailed, BothPhasesFailed, WrongBranch, Supercritical, NotFinite}
 use Rattle.std.specs.declared.result.Result.{Result}
 use Rattle.std.specs.declared.ops.ControlFlow.{ControlFlow}
-use Rattle.std.specs.Prelude.{Ok, Err}
 
 -- what a search found, or why it failed
 abbrev pub Answer : Type 0

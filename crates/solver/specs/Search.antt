@@ -1,6 +1,6 @@
 -- A search as a tree: it is done, it asks for one evaluation and goes on from what that yields, or it has a number tested for 27.
 -- What runs it, steps it and bounds it is read off the tree, for every kind of search alike. Definitions only.
-use Rattle.std.specs.Prelude.{◌≡◌, ℕ, zero, suc, ◌+◌, ◌≤◌, Bool, true, false, cond, ◌&&◌, Float}
+use Rattle.std.specs.Prelude.{◌≡◌, ℕ, zero, suc, ◌+◌, ◌≤◌, Bool, true, false, cond, ◌&&◌, Float, Ok, Err}
 use Rattle.float.specs.Ops.{◌⊕◌, f0}
 use Rattle.float.specs.Sign.{finite_of}
 use Rattle.evaluations.specs.declared.types.Pressure.{Pressure}
@@ -10,10 +10,8 @@ use Rattle.evaluations.specs.declared.types.Stability.{Stability}
 use Rattle.solver.specs.declared.types.Values.{Values}
 use Rattle.solver.specs.declared.types.Refusal.{Refusal}
 use Rattle.solver.specs.declared.types.Refusal.TheVariants.{NotFinite}
-use Rattle.solver.specs.Answer.{Answer}
-use Rattle.std.specs.Prelude.{Ok, Err}
+use Rattle.solver.specs.Answer.{Answer, is27}
 use Rattle.solver.specs.declared.types.Ran.{Ran}
-use Rattle.solver.specs.Answer.{is27}
 
 -- "An evaluation is one call of `p_dpdrho`, `p_dpdrho_d2pdrho2`, `_chemical_potential`, `criticality_conditions` or `stability_condition`";
 -- "A call of `criticality_conditions_p` is one evaluation". A query names it and what it asks at: the temperature and a density or two partial

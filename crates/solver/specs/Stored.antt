@@ -1,14 +1,11 @@
 -- Answers and places of a search as the numbers that a board stores, and back. Every number is read as something. Definitions only.
-use Rattle.std.specs.Prelude.{ℕ, Bool, cond, not, ◌&&◌, ◌||◌, eqb, ltb}
-use Rattle.solver.specs.declared.types.Values.{Values}
+use Rattle.std.specs.Prelude.{ℕ, Bool, cond, not, ◌&&◌, ◌||◌, eqb, ltb, Ok, Err}
 use Rattle.solver.specs.declared.types.Refusal.{Refusal}
 use Rattle.solver.specs.declared.types.Refusal.TheVariants.{StartNotPositive, NotConverged, IterationFailed, BothPhasesFailed, WrongBranch, Supercritical, NotFinite}
 use Rattle.std.specs.declared.result.Result.{Result}
-use Rattle.solver.specs.Answer.{Answer}
-use Rattle.std.specs.Prelude.{Ok, Err}
+use Rattle.solver.specs.Answer.{Answer, status_of, values_of}
 use Rattle.solver.specs.declared.types.Counters.{Counters}
 use Rattle.solver.specs.declared.types.Numbers.{Numbers}
-use Rattle.solver.specs.Answer.{status_of, values_of}
 
 unfoldable pub refusal_by : ℕ → Refusal
 refusal_by n =

@@ -10,14 +10,12 @@ use Rattle.solver.specs.Decimals.{d1e_8}
 use Rattle.solver.specs.declared.types.DensityInitialization.{DensityInitialization}
 use Rattle.solver.specs.declared.types.DensityInitialization.TheVariants.{Vapor, Liquid}
 use Rattle.solver.specs.declared.types.Values.{Values}
-use Rattle.solver.specs.Answer.{Answer}
+use Rattle.solver.specs.Answer.{Answer, number_of, status_of, is27, Progress}
 use Rattle.std.specs.Prelude.{Ok, Err}
-use Rattle.solver.specs.Answer.{number_of, status_of, is27}
 use Rattle.solver.specs.Search.{Evaluator, Search, done, bind, tested, run, clean, answer_of, found_and, Ruled, potential}
 use Rattle.solver.proofs.Rule.{exactly_27, answer_bind, ruled_done, ruled_asks, ruled_tested, ruled_cond, ruled_then}
 use Rattle.solver_density.specs.declared.types.Branch.{Branch}
 use Rattle.solver_density.specs.declared.types.Conditions.{Conditions}
-use Rattle.solver.specs.Answer.{Progress}
 use Rattle.std.specs.declared.ops.ControlFlow.TheVariants.{Break, Continue}
 use Rattle.solver_density.specs.declared.types.Nearest.{Nearest}
 use Rattle.solver_density.specs.declared.types.Nearest.TheVariants.{HighDensity, AboveConvex, BelowConcave}

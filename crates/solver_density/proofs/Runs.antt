@@ -1,6 +1,6 @@
 -- What a round of a run leaves to run. Assumes nothing.
-use mathlib.Core.Path.{◌≡◌, refl, sym, ap, ◌∙◌}
-use Prim.Native.Nat.{ℕ, zero, suc, ◌+◌, ◌-◌, ◌≤◌, ◌<◌}
+use mathlib.Core.Path.{◌≡◌, refl, sym, ◌∙◌}
+use Prim.Native.Nat.{ℕ, suc, ◌+◌, ◌-◌, ◌≤◌, ◌<◌}
 use native.Mathlib.Omega.{arith}
 use mathlib.Core.Bool.{Bool, true, false, cond}
 use lib.Ieee.{Float, lt, le}
@@ -11,23 +11,20 @@ use Rattle.evaluations.specs.declared.types.Pressure.{Pressure}
 use Rattle.evaluations.specs.Residual.{p_dpdrho, p_dpdrho_d2pdrho2, chemical_potential}
 use Rattle.solver.specs.declared.types.DensityInitialization.TheVariants.{Vapor, Liquid}
 use Rattle.solver.specs.declared.types.Values.{Values}
-use Rattle.solver.specs.declared.types.Refusal.{Refusal}
 use Rattle.solver.specs.declared.types.Refusal.TheVariants.{NotConverged, NotFinite}
-use Rattle.solver.specs.Answer.{Answer}
-use Rattle.std.specs.Prelude.{Ok, Err}
+use Rattle.solver.specs.Answer.{Answer, Progress}
+use Rattle.std.specs.Prelude.{Err}
 use Rattle.solver.specs.declared.types.Ran.{Ran}
-use Rattle.solver.specs.Search.{Search, done, refuse, and_then, run, settle}
+use Rattle.solver.specs.Search.{Search, refuse, and_then, run, settle}
 use Rattle.solver.specs.Evaluated.{evaluated}
-use Rattle.solver.proofs.Runs.{ran, same_run, run_from, run_tested, part_bind, first_part, then_done, then_refused}
+use Rattle.solver.proofs.Runs.{ran, same_run, run_from, run_tested, part_bind, first_part}
 use Rattle.solver.specs.Rounds.{RunsRounds}
 use Rattle.solver.proofs.Turns.{led, runs_rounds}
 use Rattle.solver.proofs.Steps.{settled}
-use Rattle.solver_density.specs.declared.types.Branch.{Branch}
 use Rattle.solver_density.specs.declared.types.Conditions.{Conditions}
 use Rattle.solver_density.specs.declared.types.Detour.{Detour}
-use Rattle.solver.specs.Answer.{Progress}
 use Rattle.solver_density.specs.declared.types.SlopeOutcome.{SlopeOutcome}
-use Rattle.solver_density.specs.Spinodal.{tested3, spinodal_from, pressure_spinodal, branch_start, branch_answer, pressure_spinodal_branch}
+use Rattle.solver_density.specs.Spinodal.{tested3, spinodal_from}
 use Rattle.solver_density.specs.Density.{corrected, detour_of, detour, unstable, density_from, first_round, density_search, density_iteration}
 use Rattle.solver_density.specs.Stable.{lower_potential, potentials, vapor_potential, stable_phase, after_liquid, density_iteration_stable}
 use Rattle.solver_density.specs.Rounds.{finite3, spinodal_round, slope_round}

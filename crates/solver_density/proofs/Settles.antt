@@ -6,13 +6,12 @@ use Rattle.float.specs.Ops.{◌⊖◌}
 use Rattle.float.specs.Sign.{finite_of, negative_of}
 use Rattle.evaluations.specs.declared.types.Pressure.{Pressure}
 use Rattle.solver.specs.declared.types.Refusal.TheVariants.{NotFinite}
-use Rattle.solver.specs.Answer.{Answer}
-use Rattle.std.specs.Prelude.{Ok, Err}
+use Rattle.solver.specs.Answer.{Answer, Progress}
+use Rattle.std.specs.Prelude.{Err}
 use Rattle.solver.specs.Search.{Search, done, refuse, tested, bind, settle}
 use Rattle.solver.proofs.Turns.{led}
 use Rattle.solver.proofs.Steps.{settle_tested, settled, cond_both, settled_bind}
 use Rattle.solver_density.specs.declared.types.Conditions.{Conditions}
-use Rattle.solver.specs.Answer.{Progress}
 use Rattle.std.specs.declared.ops.ControlFlow.TheVariants.{Break, Continue}
 use Rattle.solver_density.specs.declared.types.SlopeOutcome.{SlopeOutcome}
 use Rattle.solver_density.specs.declared.types.SlopeOutcome.TheVariants as Slope

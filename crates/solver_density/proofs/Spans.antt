@@ -7,13 +7,12 @@ use Rattle.float.specs.Sign.{negative_of}
 use Rattle.evaluations.specs.declared.types.Pressure.{Pressure}
 use Rattle.solver.specs.declared.types.DensityInitialization.{DensityInitialization}
 use Rattle.solver.specs.declared.types.DensityInitialization.TheVariants.{Vapor, Liquid}
-use Rattle.solver.specs.Answer.{Answer}
+use Rattle.solver.specs.Answer.{Answer, Progress}
 use Rattle.std.specs.Prelude.{Ok, Err}
 use Rattle.solver.specs.Search.{Search, Within}
 use Rattle.solver.proofs.Spans.{asked, within_more, within_bind, within_then, within_tested, within_cond}
 use Rattle.solver_density.specs.declared.types.Branch.{Branch}
 use Rattle.solver_density.specs.declared.types.Conditions.{Conditions}
-use Rattle.solver.specs.Answer.{Progress}
 use Rattle.std.specs.declared.ops.ControlFlow.TheVariants.{Break, Continue}
 use Rattle.solver_density.specs.declared.types.Both.{Both}
 use Rattle.solver_density.specs.declared.types.Detour.{Detour}

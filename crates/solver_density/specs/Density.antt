@@ -1,5 +1,5 @@
 -- `_density_iteration` of density_iteration.rs. Definitions only.
-use Rattle.std.specs.Prelude.{ℕ, zero, suc, Bool, cond, not, ◌&&◌, Float}
+use Rattle.std.specs.Prelude.{ℕ, zero, suc, Bool, cond, not, ◌&&◌, Float, Ok, Err}
 use Rattle.std.specs.Float.Ieee.{neg, lt, le}
 use Rattle.float.specs.Ops.{◌⊕◌, ◌⊖◌, ◌⊗◌, ◌⊘◌, f0}
 use Rattle.float.specs.Sign.{negative_of, abs_of, max_of, min_of}
@@ -10,7 +10,6 @@ use Rattle.solver.specs.declared.types.DensityInitialization.TheVariants.{Vapor,
 use Rattle.solver.specs.declared.types.Values.{Values}
 use Rattle.solver.specs.declared.types.Refusal.TheVariants.{StartNotPositive, NotConverged, IterationFailed}
 use Rattle.solver.specs.Answer.{Answer}
-use Rattle.std.specs.Prelude.{Ok, Err}
 use Rattle.solver.specs.Search.{Search, done, ask, refuse, tested, and_then, slope, curvature}
 use Rattle.solver_density.specs.declared.types.Branch.TheVariants as Branch
 use Rattle.solver_density.specs.declared.types.Conditions.{Conditions}

@@ -1,10 +1,9 @@
 -- The rounds of the searches with their tests for 27, each as one value: what the code of a run and of a step works out. Definitions only.
-use Rattle.std.specs.Prelude.{Bool, cond, ◌&&◌, Float}
+use Rattle.std.specs.Prelude.{Bool, cond, ◌&&◌, Float, Err}
 use Rattle.float.specs.Ops.{◌⊖◌}
 use Rattle.float.specs.Sign.{finite_of, negative_of}
 use Rattle.evaluations.specs.declared.types.Pressure.{Pressure}
 use Rattle.solver.specs.declared.types.Refusal.TheVariants.{NotFinite}
-use Rattle.std.specs.Prelude.{Ok, Err}
 use Rattle.solver_density.specs.declared.types.Conditions.{Conditions}
 use Rattle.solver.specs.Answer.{Progress}
 use Rattle.std.specs.declared.ops.ControlFlow.TheVariants.{Break, Continue}

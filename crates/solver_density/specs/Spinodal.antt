@@ -1,5 +1,5 @@
 -- `_pressure_spinodal` and `_pressure_spinodal_branch` of density_iteration.rs. Definitions only.
-use Rattle.std.specs.Prelude.{ℕ, zero, suc, Bool, cond, Float}
+use Rattle.std.specs.Prelude.{ℕ, zero, suc, Bool, cond, Float, Ok, Err}
 use Rattle.std.specs.Float.Ieee.{neg, lt, le}
 use Rattle.float.specs.Ops.{◌⊕◌, ◌⊖◌, ◌⊗◌, ◌⊘◌, f0}
 use Rattle.float.specs.Sign.{finite_of, abs_of, signum_of, max_of, min_of}
@@ -7,12 +7,10 @@ use Rattle.evaluations.specs.declared.types.Pressure.{Pressure}
 use Rattle.solver.specs.Decimals.{d0·05, d0·95, d0·8, d0·001, d1e_8}
 use Rattle.solver.specs.declared.types.Values.{Values}
 use Rattle.solver.specs.declared.types.Refusal.TheVariants.{StartNotPositive, NotConverged, WrongBranch}
-use Rattle.solver.specs.Answer.{Answer}
-use Rattle.std.specs.Prelude.{Ok, Err}
+use Rattle.solver.specs.Answer.{Answer, Progress}
 use Rattle.solver.specs.Search.{Search, done, ask, refuse, tested, and_then, curvature}
 use Rattle.solver_density.specs.declared.types.Branch.{Branch}
 use Rattle.solver_density.specs.declared.types.Branch.TheVariants.{Vapor, Liquid}
-use Rattle.solver.specs.Answer.{Progress}
 use Rattle.std.specs.declared.ops.ControlFlow.TheVariants.{Break, Continue}
 
 -- delta_rho, kept within `most` in size

@@ -1,12 +1,11 @@
 -- `_density_iteration_stable` of density_iteration.rs. Definitions only.
-use Rattle.std.specs.Prelude.{cond, Float}
+use Rattle.std.specs.Prelude.{cond, Float, Ok, Err}
 use Rattle.std.specs.Float.Ieee.{lt}
 use Rattle.float.specs.Ops.{◌⊗◌}
 use Rattle.solver.specs.declared.types.DensityInitialization.TheVariants.{Vapor, Liquid}
 use Rattle.solver.specs.declared.types.Values.{Values}
 use Rattle.solver.specs.declared.types.Refusal.TheVariants.{BothPhasesFailed}
 use Rattle.solver.specs.Answer.{Answer}
-use Rattle.std.specs.Prelude.{Ok, Err}
 use Rattle.solver.specs.Search.{Search, done, ask, refuse, tested, bind, potential}
 use Rattle.solver_density.specs.Density.{density_iteration}
 

@@ -52,12 +52,11 @@ pub fn conditions(maxdensity: f64, t: f64, p: f64, initial: DensityInitializatio
 pub fn correct(c: Conditions) -> f64
     ensures { result ≡ corrected c }
 {
-    let start = c.start;
-    let maxdensity = c.maxdensity;
-    if start <= 0.15 * maxdensity {
-        return 0.05 * start;
+    if c.start <= 0.15 * c.maxdensity {
+        0.05 * c.start
+    } else {
+        float::min(1.1 * c.start, c.maxdensity)
     }
-    float::min(1.1 * start, maxdensity)
 }
 
 // the Newton step with its caps
@@ -95,19 +94,15 @@ fn newton_round(c: Conditions, rho: f64, error: f64, dpdrho: f64) -> SlopeOutcom
 pub fn slope_round(c: Conditions, rho: f64, y: Pressure) -> SlopeOutcome
     ensures { result ≡ slope_round c rho y }
 {
-    let p = y.p;
-    let dpdrho = y.dp_drho;
-    if !float::is_finite(p) {
+    if !float::is_finite(y.p) || !float::is_finite(y.dp_drho) {
         return SlopeOutcome::NotFinite;
     }
-    if !float::is_finite(dpdrho) {
-        return SlopeOutcome::NotFinite;
+    let error = y.p - c.pressure;
+    if float::is_negative(y.dp_drho) {
+        SlopeOutcome::Unstable(error)
+    } else {
+        newton_round(c, rho, error, y.dp_drho)
     }
-    let error = p - c.pressure;
-    if float::is_negative(dpdrho) {
-        return SlopeOutcome::Unstable(error);
-    }
-    newton_round(c, rho, error, dpdrho)
 }
 
 // which of the five detours leads out of the unstable region
@@ -118,27 +113,23 @@ pub fn detour_of(maxdensity: f64, rho: f64, error: f64, curvature: f64) -> Detou
     if rho > 0.85 * maxdensity {
         return Detour::ByNearest(Nearest::HighDensity);
     }
-    if float::is_negative(error) {
-        if float::is_negative(curvature) {
-            return Detour::ByNearest(Nearest::BelowConcave);
-        }
-        return Detour::ByBoth(Both::BelowConvex);
+    match (float::is_negative(error), float::is_negative(curvature)) {
+        (true, true) => Detour::ByNearest(Nearest::BelowConcave),
+        (true, false) => Detour::ByBoth(Both::BelowConvex),
+        (false, true) => Detour::ByBoth(Both::AboveConcave),
+        (false, false) => Detour::ByNearest(Nearest::AboveConvex),
     }
-    if float::is_negative(curvature) {
-        return Detour::ByBoth(Both::AboveConcave);
-    }
-    Detour::ByNearest(Nearest::AboveConvex)
 }
 
 #[tactic(auto, unfolding(crate::specs::Density::beside_spinodal))]
 fn beside_spinodal(c: Conditions, sp: Values) -> f64
     ensures { result ≡ beside_spinodal c sp }
 {
-    let maxdensity = c.maxdensity;
     if float::is_negative(sp.first - c.pressure) {
-        return float::min(sp.second * 1.1, maxdensity);
+        float::min(sp.second * 1.1, c.maxdensity)
+    } else {
+        0.001 * c.maxdensity
     }
-    0.001 * maxdensity
 }
 
 // where a detour through the nearest spinodal leads
@@ -146,25 +137,23 @@ fn beside_spinodal(c: Conditions, sp: Values) -> f64
 pub fn after_nearest(c: Conditions, way: Nearest, sp: Values) -> Answer
     ensures { result ≡ after_nearest c way sp }
 {
-    let maxdensity = c.maxdensity;
     let rho = sp.second;
     let below = float::is_negative(sp.first - c.pressure);
     match way {
-        Nearest::HighDensity => {
-            if rho > 0.85 * maxdensity {
-                if below {
-                    return Err(Refusal::IterationFailed);
-                }
-                return found_density(rho * 0.98);
+        Nearest::HighDensity if rho > 0.85 * c.maxdensity => {
+            if below {
+                Err(Refusal::IterationFailed)
+            } else {
+                found_density(rho * 0.98)
             }
-            found_density(beside_spinodal(c, sp))
         }
-        Nearest::AboveConvex => found_density(beside_spinodal(c, sp)),
+        Nearest::HighDensity | Nearest::AboveConvex => found_density(beside_spinodal(c, sp)),
         Nearest::BelowConcave => {
             if below {
-                return found_density(0.8 * maxdensity);
+                found_density(0.8 * c.maxdensity)
+            } else {
+                found_density(rho * 0.8)
             }
-            found_density(rho * 0.8)
         }
     }
 }
@@ -174,30 +163,25 @@ pub fn after_nearest(c: Conditions, way: Nearest, sp: Values) -> Answer
 pub fn after_both(c: Conditions, way: Both, liquid: f64, v: Values) -> f64
     ensures { result ≡ after_both c way liquid v }
 {
-    let start = c.start;
     let vapor = v.second;
     let below = float::is_negative(v.first - c.pressure);
-    let to_vapor = float::abs(start - vapor);
-    let to_liquid = float::abs(start - liquid);
+    let to_vapor = float::abs(c.start - vapor);
+    let to_liquid = float::abs(c.start - liquid);
     let beyond_liquid = float::min(liquid * 1.1, c.maxdensity);
     match way {
         Both::BelowConvex => {
-            if below {
-                return beyond_liquid;
+            if !below && to_vapor < to_liquid {
+                0.8 * vapor
+            } else {
+                beyond_liquid
             }
-            if to_vapor < to_liquid {
-                return 0.8 * vapor;
-            }
-            beyond_liquid
         }
         Both::AboveConcave => {
-            if below {
-                if to_vapor > to_liquid {
-                    return beyond_liquid;
-                }
-                return 0.8 * vapor;
+            if below && to_vapor > to_liquid {
+                beyond_liquid
+            } else {
+                0.8 * vapor
             }
-            0.8 * vapor
         }
     }
 }

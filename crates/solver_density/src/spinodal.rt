@@ -19,9 +19,10 @@ pub fn cap(most: f64, delta: f64) -> f64
     ensures { result ≡ capped most delta }
 {
     if float::abs(delta) > most {
-        return most * float::signum(delta);
+        most * float::signum(delta)
+    } else {
+        delta
     }
-    delta
 }
 
 #[tactic(auto, unfolding(crate::specs::Spinodal::spinodal_step))]
@@ -48,9 +49,10 @@ fn spinodal_outcome(maxdensity: f64, rho: f64, y: Pressure) -> Progress<f64>
     }
     let delta_rho = -dpdrho / d2pdrho2;
     if float::is_finite(delta_rho) {
-        return ControlFlow::Continue(spinodal_step(maxdensity, rho, delta_rho));
+        ControlFlow::Continue(spinodal_step(maxdensity, rho, delta_rho))
+    } else {
+        ControlFlow::Break(Err(Refusal::NotConverged))
     }
-    ControlFlow::Break(Err(Refusal::NotConverged))
 }
 
 #[tactic(auto, unfolding(crate::specs::Rounds::tested_outcome))]
@@ -79,9 +81,10 @@ pub fn spinodal_round(maxdensity: f64, rho: f64, y: Pressure) -> Progress<f64>
     ensures { result ≡ spinodal_round maxdensity rho y }
 {
     if all_finite(y) {
-        return tested_outcome(spinodal_outcome(maxdensity, rho, y));
+        tested_outcome(spinodal_outcome(maxdensity, rho, y))
+    } else {
+        ControlFlow::Break(Err(Refusal::NotFinite))
     }
-    ControlFlow::Break(Err(Refusal::NotFinite))
 }
 
 pub fn spinodal_search(blend: Blend, maxdensity: f64, temperature: f64, start: f64) -> Ran

@@ -16,9 +16,10 @@ pub fn lower_potential(liquid: Values, vapor: Values, of_liquid: f64, of_vapor: 
     ensures { result ≡ lower_potential liquid vapor of_liquid of_vapor }
 {
     if of_liquid > of_vapor {
-        return Ok(vapor);
+        Ok(vapor)
+    } else {
+        Ok(liquid)
     }
-    Ok(liquid)
 }
 
 fn potentials(blend: Blend, temperature: f64, liquid: Values, vapor: Values) -> Ran

@@ -7,7 +7,7 @@ use Rattle.float.specs.Ops.{f0}
 use Rattle.float.specs.Sign.{finite_of}
 use Rattle.evaluations.specs.declared.types.Pressure.{Pressure}
 use Rattle.solver.specs.declared.types.Refusal.TheVariants.{StartNotPositive, NotFinite}
-use Rattle.solver.specs.Answer.{Answer}
+use Rattle.solver.specs.Answer.{Answer, Progress}
 use Rattle.solver.specs.Search.{Evaluator, Search, done, refuse, bind, on_found, and_then, settle, next_of, slope, curvature}
 use Rattle.solver.proofs.Steps.{settle_bind, moved, next_bind, settled}
 use Rattle.solver_density.specs.declared.types.Branch.TheVariants.{Liquid, Vapor}
@@ -22,14 +22,12 @@ use Rattle.solver_density.specs.Spinodal.{tested3, pressure_spinodal, pressure_s
 use Rattle.solver_density.specs.Density.{density, corrected, detour_of, after_nearest, after_both, vapor, detour, unstable, density_from, first_round, density_search}
 use Rattle.solver_density.specs.Rounds.{finite3}
 use Rattle.solver_density.proofs.Settles.{tests3, slope_led, slope_led_lem}
-use Rattle.solver.specs.Answer.{Progress}
-use Rattle.solver_step.specs.SpinodalStep.{SpinodalSpot}
+use Rattle.solver_step.specs.SpinodalStep.{SpinodalSpot, spinodal_start, resume_spinodal, spinodal_left, branch_begin, resume_branch, branch_left}
 use Rattle.std.specs.declared.ops.ControlFlow.TheVariants.{Break, Continue}
 use Rattle.std.specs.Prelude.{Ok, Err}
 use Rattle.solver_step.specs.declared.types.DensitySpot.{DensitySpot}
 use Rattle.solver_step.specs.declared.types.DensitySpot.TheVariants.{First, Slope, Curvature, NearestSpinodal, LiquidSpinodal, VaporSpinodal}
-use Rattle.solver_step.specs.Phase.{Phase, Standing}
-use Rattle.solver_step.specs.SpinodalStep.{spinodal_start, resume_spinodal, spinodal_left, branch_begin, resume_branch, branch_left}
+use Rattle.solver_step.specs.Phase.{Standing}
 use Rattle.solver_step.specs.DensityStep.{phase_answer, slope_at, arrived_at, slope_on, go_on, resume_density, density_left, density_at, first_on, nearest_on, vapor_on, liquid_on, detour_at, curvature_on, density_next, density_begin}
 use Rattle.solver_step.proofs.SpinodalLaw.{spinodal_law, spinodal_begins, spinodal_asks2, branch_law, branch_begins, branch_asks2}
 

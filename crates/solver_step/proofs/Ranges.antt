@@ -8,8 +8,7 @@ use Rattle.float.specs.Ops.{◌⊗◌, f0}
 use Rattle.float.specs.Sign.{finite_of}
 use Rattle.evaluations.specs.declared.types.Pressure.{Pressure}
 use Rattle.solver.specs.declared.types.Refusal.TheVariants.{StartNotPositive, NotFinite}
-use Rattle.solver.specs.Answer.{Answer}
-use Rattle.solver.specs.Answer.{status_of}
+use Rattle.solver.specs.Answer.{Answer, status_of, Progress}
 use Rattle.solver.specs.Stored.{status_fits}
 use Rattle.solver.specs.Search.{Evaluator}
 use Rattle.solver.specs.Rounds.{onward}
@@ -17,7 +16,6 @@ use Rattle.solver.proofs.Ranges.{Fits, below, fits, status_fits_lem, ended_fits}
 use Rattle.solver_density.specs.declared.types.Branch.{Branch}
 use Rattle.solver_density.specs.declared.types.Branch.TheVariants.{Liquid, Vapor}
 use Rattle.solver_density.specs.declared.types.Conditions.{Conditions}
-use Rattle.solver.specs.Answer.{Progress}
 use Rattle.std.specs.declared.ops.ControlFlow.TheVariants.{Break, Continue}
 use Rattle.solver_density.specs.declared.types.SlopeOutcome.{SlopeOutcome}
 use Rattle.solver_density.specs.declared.types.SlopeOutcome.TheVariants as Slope
@@ -30,17 +28,17 @@ use Rattle.solver_density.specs.declared.types.Detour.TheVariants.{ByNearest, By
 use Rattle.solver_density.specs.Density.{detour_of, after_nearest}
 use Rattle.solver_density.specs.Rounds.{finite3}
 use Rattle.solver_density.specs.Spinodal.{branch_start}
-use Rattle.solver_step.specs.SpinodalStep.{SpinodalSpot}
+use Rattle.solver_step.specs.SpinodalStep.{SpinodalSpot, spinodal_on, spinodal_start, spinodal_next, branch_place, branch_begin, branch_next}
 use Rattle.solver_step.specs.Phase.{Phase, Standing}
 use Rattle.std.specs.Prelude.{Ok, Err}
 use Rattle.solver_step.specs.declared.types.DensitySpot.{DensitySpot}
 use Rattle.solver_step.specs.declared.types.DensitySpot.TheVariants.{First, Slope, Curvature, NearestSpinodal, LiquidSpinodal, VaporSpinodal}
 use Rattle.solver_step.specs.declared.types.StableSpot.{StableSpot}
 use Rattle.solver_step.specs.declared.types.StableSpot.TheVariants.{LiquidSearch, VaporSearch, LiquidPotential, VaporPotential}
-use Rattle.solver_step.specs.SpinodalStep.{spinodal_on, spinodal_start, spinodal_next, branch_place, branch_begin, branch_next}
 use Rattle.solver_step.specs.DensityStep.{phase_answer, slope_at, arrived_at, slope_on, first_on, nearest_on, vapor_on, liquid_on, detour_at, curvature_on, density_next, density_begin}
 use Rattle.solver_step.specs.StableStep.{phases_on, vapor_search_on, liquid_potential_on, vapor_potential_on, of_liquid, of_vapor, liquid_search_on, stable_next, stable_begin}
-use Rattle.solver_step.specs.Stored.{nearest_number, both_number, spot_numbers, spinodal_numbers, density_spot_numbers, density_numbers, staged, potential_numbers, stable_numbers}
+use Rattle.solver_density.specs.Ways.{nearest_number, both_number}
+use Rattle.solver_step.specs.Stored.{spot_numbers, spinodal_numbers, density_spot_numbers, density_numbers, staged, potential_numbers, stable_numbers}
 
 -- ---- spinodal searches: fewer than 50 rounds left
 data Few : Progress SpinodalSpot → Type 0 where

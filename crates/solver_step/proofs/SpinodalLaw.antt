@@ -6,19 +6,17 @@ use lib.Ieee.{Float, le}
 use Rattle.float.specs.Ops.{f0}
 use Rattle.float.specs.Sign.{finite_of}
 use Rattle.solver.specs.declared.types.Refusal.TheVariants.{StartNotPositive}
-use Rattle.solver.specs.Answer.{Answer}
+use Rattle.solver.specs.Answer.{Answer, Progress}
 use Rattle.std.specs.Prelude.{Ok, Err}
 use Rattle.solver.specs.Search.{Evaluator, Search, done, refuse, bind, on_found, settle, next_of, curvature}
 use Rattle.solver.proofs.Steps.{settle_bind, moved, next_bind, settled}
 use Rattle.solver_density.specs.declared.types.Branch.{Branch}
-use Rattle.solver.specs.Answer.{Progress}
 use Rattle.std.specs.declared.ops.ControlFlow.TheVariants.{Break, Continue}
 use Rattle.solver_density.specs.Spinodal.{spinodal_from, pressure_spinodal, branch_start, branch_answer, pressure_spinodal_branch}
 use Rattle.solver.specs.Rounds.{onward}
 use Rattle.solver.proofs.Turns.{led}
 use Rattle.solver_density.proofs.Settles.{round_led}
-use Rattle.solver_step.specs.SpinodalStep.{SpinodalSpot}
-use Rattle.solver_step.specs.SpinodalStep.{spinodal_on, spinodal_start, resume_spinodal, spinodal_left, spinodal_next, branch_place, branch_begin, resume_branch, branch_left, branch_next}
+use Rattle.solver_step.specs.SpinodalStep.{SpinodalSpot, spinodal_on, spinodal_start, resume_spinodal, spinodal_left, spinodal_next, branch_place, branch_begin, resume_branch, branch_left, branch_next}
 
 module _ (maxdensity t : Float) where
   -- ---- kind 3

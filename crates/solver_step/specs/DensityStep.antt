@@ -1,11 +1,11 @@
 -- Kind 1 one evaluation at a time: what is left at a spot, and where its evaluation leads. Definitions only.
-use Rattle.std.specs.Prelude.{ℕ, zero, suc, cond, Float}
+use Rattle.std.specs.Prelude.{ℕ, zero, suc, cond, Float, Ok, Err}
 use Rattle.std.specs.Float.Ieee.{le}
 use Rattle.float.specs.Ops.{f0}
 use Rattle.evaluations.specs.declared.types.Pressure.{Pressure}
 use Rattle.solver.specs.declared.types.Values.{Values}
 use Rattle.solver.specs.declared.types.Refusal.TheVariants.{StartNotPositive, NotConverged, NotFinite}
-use Rattle.solver.specs.Answer.{Answer}
+use Rattle.solver.specs.Answer.{Answer, Progress}
 use Rattle.solver.specs.Search.{Evaluator, Search, done, and_then, slope, curvature}
 use Rattle.solver_density.specs.declared.types.Branch.TheVariants.{Liquid, Vapor}
 use Rattle.solver_density.specs.declared.types.Conditions.{Conditions}
@@ -17,10 +17,8 @@ use Rattle.solver_density.specs.declared.types.Detour.{Detour}
 use Rattle.solver_density.specs.declared.types.Detour.TheVariants.{ByNearest, ByBoth}
 use Rattle.solver_density.specs.Density.{density, corrected, detour_of, after_nearest, after_both, vapor, unstable, density_from, first_round}
 use Rattle.solver_density.specs.Rounds.{finite3, slope_round}
-use Rattle.solver.specs.Answer.{Progress}
 use Rattle.std.specs.declared.ops.ControlFlow.TheVariants.{Break, Continue}
 use Rattle.solver_step.specs.Phase.{Phase, Standing}
-use Rattle.std.specs.Prelude.{Ok, Err}
 use Rattle.solver_step.specs.declared.types.DensitySpot.{DensitySpot}
 use Rattle.solver_step.specs.declared.types.DensitySpot.TheVariants.{First, Slope, Curvature, NearestSpinodal, LiquidSpinodal, VaporSpinodal}
 use Rattle.solver_step.specs.SpinodalStep.{SpinodalSpot, resume_spinodal, spinodal_start, spinodal_next, branch_begin, resume_branch, branch_next}

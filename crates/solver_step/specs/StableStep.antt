@@ -1,5 +1,5 @@
 -- Kind 2 one evaluation at a time: what is left at a spot, and where its evaluation leads. Definitions only.
-use Rattle.std.specs.Prelude.{cond, Float}
+use Rattle.std.specs.Prelude.{cond, Float, Ok, Err}
 use Rattle.std.specs.Float.Ieee.{lt}
 use Rattle.float.specs.Ops.{◌⊗◌, f0}
 use Rattle.float.specs.Sign.{finite_of}
@@ -11,7 +11,6 @@ use Rattle.solver_density.specs.declared.types.Conditions.{Conditions}
 use Rattle.solver_density.specs.Density.{conditions_of}
 use Rattle.solver_density.specs.Stable.{vapor_potential, potentials, stable_phase, after_liquid}
 use Rattle.solver_step.specs.Phase.{Phase, Standing}
-use Rattle.std.specs.Prelude.{Ok, Err}
 use Rattle.solver_step.specs.declared.types.DensitySpot.{DensitySpot}
 use Rattle.std.specs.declared.ops.ControlFlow.TheVariants.{Break, Continue}
 use Rattle.solver_step.specs.declared.types.StableSpot.{StableSpot}

@@ -2,38 +2,17 @@
 use Rattle.std.specs.Prelude.{ℕ, cond, Float, eqb}
 use Rattle.float.specs.Ops.{f0}
 use Rattle.solver.specs.declared.types.Numbers.{Numbers}
-use Rattle.solver.specs.Answer.{status_of, values_of}
-use Rattle.solver.specs.Stored.{refusal_by, answer_by, ended_numbers}
-use Rattle.solver_density.specs.declared.types.Nearest.{Nearest}
-use Rattle.solver_density.specs.declared.types.Nearest.TheVariants.{HighDensity, AboveConvex, BelowConcave}
-use Rattle.solver_density.specs.declared.types.Both.{Both}
-use Rattle.solver_density.specs.declared.types.Both.TheVariants.{BelowConvex, AboveConcave}
+use Rattle.solver.specs.Answer.{status_of, values_of, Progress}
+use Rattle.solver.specs.Stored.{answer_by, ended_numbers}
+use Rattle.solver_density.specs.Ways.{nearest_number, nearest_by, both_number, both_by}
 use Rattle.solver_step.specs.SpinodalStep.{SpinodalSpot}
-use Rattle.solver.specs.Answer.{Progress}
 use Rattle.std.specs.declared.ops.ControlFlow.TheVariants.{Break, Continue}
 use Rattle.solver_step.specs.Phase.{Phase, Standing}
-use Rattle.std.specs.Prelude.{Ok, Err}
 use Rattle.solver_step.specs.declared.types.DensitySpot.{DensitySpot}
 use Rattle.solver_step.specs.declared.types.DensitySpot.TheVariants.{First, Slope, Curvature, NearestSpinodal, LiquidSpinodal, VaporSpinodal}
 use Rattle.solver_step.specs.declared.types.StableSpot.{StableSpot}
 use Rattle.solver_step.specs.declared.types.StableSpot.TheVariants.{LiquidSearch, VaporSearch, LiquidPotential, VaporPotential}
 use Rattle.solver_step.specs.DensityStep.{phase_answer}
-
--- ---- the detours
-unfoldable pub nearest_number : Nearest → ℕ
-nearest_number HighDensity = 0
-nearest_number AboveConvex = 1
-nearest_number BelowConcave = 2
-
-unfoldable pub nearest_by : ℕ → Nearest
-nearest_by n = cond (eqb n 0) HighDensity (cond (eqb n 1) AboveConvex BelowConcave)
-
-unfoldable pub both_number : Both → ℕ
-both_number BelowConvex = 0
-both_number AboveConcave = 1
-
-unfoldable pub both_by : ℕ → Both
-both_by n = cond (eqb n 0) BelowConvex AboveConcave
 
 -- ---- a place that asks
 unfoldable pub spot_numbers : (tag left way rounds : ℕ) (x y : Float) → Numbers

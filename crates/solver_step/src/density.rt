@@ -16,10 +16,7 @@ use std::ops::ControlFlow;
 pub fn phase_answer(phase: Phase) -> Answer
     ensures { result ≡ phase_answer phase }
 {
-    match phase {
-        Ok(rho) => solver_density::found_density(rho),
-        Err(refusal) => Err(refusal),
-    }
+    solver_density::found_density(phase?)
 }
 
 // the next round, `left` being left with it
@@ -165,9 +162,10 @@ fn curvature_on(
 {
     if solver_density::all_finite(y) {
         let detour = solver_density::detour_of(c.maxdensity, rho, error, y.d2p_drho2);
-        return detour_at(c, left, detour);
+        detour_at(c, left, detour)
+    } else {
+        ControlFlow::Break(Err(Refusal::NotFinite))
     }
-    ControlFlow::Break(Err(Refusal::NotFinite))
 }
 
 // the one evaluation at a spot, and where it leads

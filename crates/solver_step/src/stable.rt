@@ -59,13 +59,14 @@ fn liquid_potential_on(liquid: f64, vapor: f64, potential: f64) -> Standing<Stab
     ensures { result ≡ liquid_potential_on liquid vapor potential }
 {
     if float::is_finite(potential) {
-        return ControlFlow::Continue(StableSpot::VaporPotential {
+        ControlFlow::Continue(StableSpot::VaporPotential {
             liquid,
             vapor,
             potential,
-        });
+        })
+    } else {
+        ControlFlow::Break(Err(Refusal::NotFinite))
     }
-    ControlFlow::Break(Err(Refusal::NotFinite))
 }
 
 #[tactic(auto, unfolding(crate::specs::StableStep::vapor_potential_on))]
@@ -77,16 +78,17 @@ fn vapor_potential_on(
 ) -> Standing<StableSpot>
     ensures { result ≡ vapor_potential_on liquid vapor of_liquid of_vapor }
 {
-    if float::is_finite(of_vapor) {
-        if of_liquid > of_vapor {
-            return ControlFlow::Break(Ok(vapor));
-        }
-        return ControlFlow::Break(Ok(liquid));
-    }
-    ControlFlow::Break(Err(Refusal::NotFinite))
+    ControlFlow::Break(if !float::is_finite(of_vapor) {
+        Err(Refusal::NotFinite)
+    } else if of_liquid > of_vapor {
+        Ok(vapor)
+    } else {
+        Ok(liquid)
+    })
 }
 
 // the one evaluation at a spot, and where it leads
+// The three numbers stand apart, as solver_state's job of kind 2 has them; a struct of them would be made only to be taken apart.
 #[tactic(auto, unfolding(crate::specs::StableStep::stable_next, solver::specs::Evaluated::evaluated))]
 pub fn stable_next(
     blend: Blend,

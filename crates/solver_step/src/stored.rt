@@ -1,55 +1,13 @@
 // The places of kinds 1 to 4 as numbers and back.
 ghost use Rattle.std.specs.Prelude.{◌≡◌};
 ghost use Rattle.std.specs.declared.ops.ControlFlow.TheVariants.{Continue};
-ghost use Rattle.solver_step.specs.Stored.{nearest_number, nearest_by, both_number, both_by, spot_numbers, spinodal_numbers, spinodal_spot_by, spinodal_place_by, density_spot_numbers, density_spot_by, density_numbers, density_place_by, staged as staged_numbers, potential_numbers, stable_numbers, stable_spot_by, stable_place_by};
+ghost use Rattle.solver_step.specs.Stored.{spot_numbers, spinodal_numbers, spinodal_spot_by, spinodal_place_by, density_spot_numbers, density_spot_by, density_numbers, density_place_by, staged as staged_numbers, potential_numbers, stable_numbers, stable_spot_by, stable_place_by};
 
 use crate::density::phase_answer;
 use crate::types::{DensitySpot, SpinodalSpot, StableSpot, Standing};
 use solver::{Counters, Numbers, Progress, Values};
 use solver_density::{Both, Nearest};
 use std::ops::ControlFlow;
-
-#[tactic(auto, unfolding(crate::specs::Stored::nearest_number))]
-fn nearest_number(way: Nearest) -> u64
-    ensures { result ≡ nearest_number way }
-{
-    match way {
-        Nearest::HighDensity => 0,
-        Nearest::AboveConvex => 1,
-        Nearest::BelowConcave => 2,
-    }
-}
-
-#[tactic(auto, unfolding(crate::specs::Stored::nearest_by))]
-fn nearest_by(number: u64) -> Nearest
-    ensures { result ≡ nearest_by number }
-{
-    match number {
-        0 => Nearest::HighDensity,
-        1 => Nearest::AboveConvex,
-        _ => Nearest::BelowConcave,
-    }
-}
-
-#[tactic(auto, unfolding(crate::specs::Stored::both_number))]
-fn both_number(way: Both) -> u64
-    ensures { result ≡ both_number way }
-{
-    match way {
-        Both::BelowConvex => 0,
-        Both::AboveConcave => 1,
-    }
-}
-
-#[tactic(auto, unfolding(crate::specs::Stored::both_by))]
-fn both_by(number: u64) -> Both
-    ensures { result ≡ both_by number }
-{
-    match number {
-        0 => Both::BelowConvex,
-        _ => Both::AboveConcave,
-    }
-}
 
 #[tactic(auto, unfolding(crate::specs::Stored::spot_numbers))]
 fn spot_numbers(tag: u64, left: u64, way: u64, rounds: u64, x: f64, y: f64) -> Numbers
@@ -110,17 +68,17 @@ fn density_spot_numbers(spot: DensitySpot) -> Numbers
         DensitySpot::Slope { left, rho } => spot_numbers(2, left, 0, 0, rho, 0.0),
         DensitySpot::Curvature { left, rho, error } => spot_numbers(3, left, 0, 0, rho, error),
         DensitySpot::NearestSpinodal { left, way, at } => {
-            spot_numbers(4, left, nearest_number(way), at.rounds, at.at, 0.0)
+            spot_numbers(4, left, u64::from(way), at.rounds, at.at, 0.0)
         }
         DensitySpot::LiquidSpinodal { left, way, at } => {
-            spot_numbers(5, left, both_number(way), at.rounds, at.at, 0.0)
+            spot_numbers(5, left, u64::from(way), at.rounds, at.at, 0.0)
         }
         DensitySpot::VaporSpinodal {
             left,
             way,
             liquid,
             at,
-        } => spot_numbers(6, left, both_number(way), at.rounds, at.at, liquid),
+        } => spot_numbers(6, left, u64::from(way), at.rounds, at.at, liquid),
     }
 }
 
@@ -140,17 +98,17 @@ fn density_spot_by(n: Numbers) -> DensitySpot
         },
         4 => DensitySpot::NearestSpinodal {
             left,
-            way: nearest_by(n.counters.way),
+            way: Nearest::from(n.counters.way),
             at: spinodal_spot_by(n),
         },
         5 => DensitySpot::LiquidSpinodal {
             left,
-            way: both_by(n.counters.way),
+            way: Both::from(n.counters.way),
             at: spinodal_spot_by(n),
         },
         _ => DensitySpot::VaporSpinodal {
             left,
-            way: both_by(n.counters.way),
+            way: Both::from(n.counters.way),
             liquid: n.values.second,
             at: spinodal_spot_by(n),
         },

@@ -10,4 +10,3 @@ returns-in-LiquidSearch c = rw (c.in-LiquidSearch.is, ← c.conditions-c.ensures
 pub returns-in-VaporSearch : goal.returns-in-VaporSearch
 unfolding stable_next evaluated
 returns-in-VaporSearch c = rw (c.in-VaporSearch.is, ← c.conditions-c-in-VaporSearch.ensures, ← c.density_next-in-VaporSearch.ensures, ← c.vapor_search_on.ensures)
-
