@@ -106,18 +106,19 @@ unfolding on_found run
 then_refused b t f s r e a = rw a at (first_part b t (on_found f) s e)
 
 -- what was found by a part is worked on, with no evaluation more
-pub then_answer : (b : Blend) (t : Search) (f : Values → Answer) (s : Ran) (a : Answer) → s ≡ ran b 0 t → MatchResult s.answer (λ v. a ≡ f v) (λ r. a ≡ Err r)
+pub then_answer : (b : Blend) (t : Search) (f : Values → Answer) (R : Values → Type 0) (s : Ran) (a : Answer) → s ≡ ran b 0 t
+    → MatchResult s.answer R (λ r. a ≡ Err r) → ((v : Values) → R v → a ≡ f v)
     → record { answer = a; evaluations = s.evaluations } ≡ ran b 0 (and_then t (λ v. done (f v)))
-then_answer b t f s a e h = go s.answer refl h
+then_answer b t f R s a e h law = go s.answer refl h
   where
-    go : (x : Answer) → s.answer ≡ x → MatchResult x (λ v. a ≡ f v) (λ r. a ≡ Err r) → record { answer = a; evaluations = s.evaluations } ≡ ran b 0 (and_then t (λ v. done (f v)))
-    go (Ok v) q h = rw h (then_done b t f s v e q)
+    go : (x : Answer) → s.answer ≡ x → MatchResult x R (λ r. a ≡ Err r) → record { answer = a; evaluations = s.evaluations } ≡ ran b 0 (and_then t (λ v. done (f v)))
+    go (Ok v) q h = rw (law v h) (then_done b t f s v e q)
     go (Err r) q h = rw h (then_refused b t (λ v. done (f v)) s r e q)
 
 -- the rest follows what was found by a part
 pub then_follows : (b : Blend) (t : Search) (f : Values → Search) (R : Values → Ran → Type 0) (s e : Ran) → s ≡ ran b 0 t
-    → ((v : Values) (r : Ran) → R v r → r ≡ ran b 0 (f v)) → Follows R s e → e ≡ ran b 0 (and_then t f)
-then_follows b t f R s e es h q = go s.answer refl q
+    → Follows R s e → ((v : Values) (r : Ran) → R v r → r ≡ ran b 0 (f v)) → e ≡ ran b 0 (and_then t f)
+then_follows b t f R s e es q h = go s.answer refl q
   where
     go : (x : Answer) → s.answer ≡ x → FollowsAnswer R s e x → e ≡ ran b 0 (and_then t f)
     go (Ok v) a (r, p, q) = q ∙ then_found b t f s v r es a (h v r p)

@@ -5,7 +5,7 @@ use Rattle.std.specs.declared.ops.ControlFlow.TheVariants.{Break, Continue}
 use Rattle.std.specs.ControlFlow.{MatchControlFlow}
 use Rattle.solver.specs.declared.types.Refusal.{Refusal}
 use Rattle.solver.specs.declared.types.Ran.{Ran}
-use Rattle.solver.specs.Answer.{Answer, Progress}
+use Rattle.solver.specs.Answer.{Progress}
 use Rattle.solver.specs.Search.{Search, done, refuse, run}
 use Rattle.solver.specs.Rounds.{RunsRounds}
 use Rattle.solver.proofs.Runs.{ran}

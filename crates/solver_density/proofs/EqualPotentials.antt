@@ -6,7 +6,7 @@ use lib.Ieee.{Float, eq}
 use Rattle.float.specs.Sign.{finite_of}
 use Rattle.float.proofs.SignLaws.{equal_not_below, not_below_itself}
 use Rattle.solver.specs.declared.types.Values.{Values}
-use Rattle.std.specs.Prelude.{Ok, Err}
+use Rattle.std.specs.Prelude.{Ok}
 use Rattle.solver.specs.Search.{Evaluator, run, potential}
 use Rattle.solver.proofs.Runs.{run_tested}
 use Rattle.solver_density.specs.Stable.{lower_potential, vapor_potential, potentials}

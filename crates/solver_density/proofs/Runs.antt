@@ -1,6 +1,6 @@
 -- What a round of a run leaves to run. Assumes nothing.
-use mathlib.Core.Path.{◌≡◌, refl, sym, ap, ◌∙◌}
-use Prim.Native.Nat.{ℕ, zero, suc, ◌+◌, ◌-◌, ◌≤◌, ◌<◌}
+use mathlib.Core.Path.{◌≡◌, refl, sym, ◌∙◌}
+use Prim.Native.Nat.{ℕ, suc, ◌+◌, ◌-◌, ◌≤◌, ◌<◌}
 use native.Mathlib.Omega.{arith}
 use mathlib.Core.Bool.{Bool, true, false, cond}
 use lib.Ieee.{Float, lt, le}
@@ -11,52 +11,36 @@ use Rattle.evaluations.specs.declared.types.Pressure.{Pressure}
 use Rattle.evaluations.specs.Residual.{p_dpdrho, p_dpdrho_d2pdrho2, chemical_potential}
 use Rattle.solver.specs.declared.types.DensityInitialization.TheVariants.{Vapor, Liquid}
 use Rattle.solver.specs.declared.types.Values.{Values}
-use Rattle.solver.specs.declared.types.Refusal.{Refusal}
 use Rattle.solver.specs.declared.types.Refusal.TheVariants.{NotConverged, NotFinite}
 use Rattle.solver.specs.Answer.{Answer}
-use Rattle.std.specs.Prelude.{Ok, Err}
+use Rattle.std.specs.Prelude.{Err}
 use Rattle.solver.specs.declared.types.Ran.{Ran}
-use Rattle.solver.specs.Search.{Search, done, refuse, and_then, run, settle}
+use Rattle.solver.specs.Search.{Search, refuse, and_then, run, settle}
 use Rattle.solver.specs.Evaluated.{evaluated}
-use Rattle.solver.proofs.Runs.{ran, same_run, run_from, run_tested, part_bind, first_part, then_done, then_refused}
+use Rattle.solver.proofs.Runs.{ran, same_run, run_from, run_tested, part_bind, first_part}
+use Rattle.solver.specs.Rounds.{RunsRounds}
+use Rattle.solver.proofs.Turns.{led, runs_rounds}
 use Rattle.solver.proofs.Steps.{settled}
-use Rattle.solver_density.specs.declared.types.Branch.{Branch}
 use Rattle.solver_density.specs.declared.types.Conditions.{Conditions}
 use Rattle.solver_density.specs.declared.types.Detour.{Detour}
 use Rattle.solver.specs.Answer.{Progress}
 use Rattle.solver_density.specs.declared.types.SlopeOutcome.{SlopeOutcome}
-use Rattle.solver_density.specs.Spinodal.{tested3, spinodal_from, pressure_spinodal, branch_start, branch_answer, pressure_spinodal_branch}
+use Rattle.solver_density.specs.Spinodal.{tested3, spinodal_from}
 use Rattle.solver_density.specs.Density.{corrected, detour_of, detour, unstable, density_from, first_round, density_search, density_iteration}
 use Rattle.solver_density.specs.Stable.{lower_potential, potentials, vapor_potential, stable_phase, after_liquid, density_iteration_stable}
 use Rattle.solver_density.specs.Rounds.{finite3, spinodal_round, slope_round}
-use Rattle.solver_density.proofs.Settles.{tests3, led, round_led, slope_led, slope_led_lem}
+use Rattle.solver_density.proofs.Settles.{tests3, round_led, slope_led, slope_led_lem}
 
--- ---- the loop of a spinodal search
-module _ (b : Blend) (maxdensity t : Float) where
-  pub spinodal_turn : (ρ : Float) (left n : ℕ) (y : Pressure) (o : Progress Float) (w : Ran) → 0 < left → y ≡ p_dpdrho_d2pdrho2 b t ρ → o ≡ spinodal_round maxdensity ρ y
-      → ran b n (spinodal_from maxdensity t left ρ) ≡ w → ran b (n + 1) (led o (spinodal_from maxdensity t (left - 1))) ≡ w
+-- ---- the rounds of a spinodal search
+module _ (b : Blend) (maxdensity t : Float) (R : Float → Progress Float → Type 0)
+    (law : (ρ : Float) (o : Progress Float) → R ρ o → o ≡ spinodal_round maxdensity ρ (p_dpdrho_d2pdrho2 b t ρ)) where
+  spinodal_turn : (m n : ℕ) (ρ : Float) (o : Progress Float) → R ρ o → ran b m (spinodal_from maxdensity t (suc n) ρ) ≡ ran b (m + 1) (led o (spinodal_from maxdensity t n))
   unfolding run spinodal_from evaluated
-  spinodal_turn ρ zero n y o w h ey eo e = absurd (omega arith)
-  spinodal_turn ρ (suc m) n y o w h ey eo e =
-      let q : suc m - 1 ≡ m = omega arith in
-      rw (q, eo, ey) (same_run b (n + 1) _ _ (sym (round_led maxdensity ρ (p_dpdrho_d2pdrho2 b t ρ) (spinodal_from maxdensity t m))) ∙ e)
+  spinodal_turn m n ρ o p = rw (law ρ o p) (same_run b (m + 1) _ _ (round_led maxdensity ρ (p_dpdrho_d2pdrho2 b t ρ) (spinodal_from maxdensity t n)))
 
-  pub spinodal_over : (ρ : Float) (left n : ℕ) (w : Ran) → left ≤ 0 → ran b n (spinodal_from maxdensity t left ρ) ≡ w → record { answer = Err NotConverged; evaluations = n } ≡ w
-  unfolding run spinodal_from
-  spinodal_over ρ zero n w h e = e
-  spinodal_over ρ (suc m) n w h e = absurd (omega arith)
-
-module _ (b : Blend) (maxdensity t : Float) (branch : Branch) (start : Float) (s : Ran) (es : start ≡ branch_start maxdensity branch) (e : s ≡ ran b 0 (pressure_spinodal maxdensity t start)) where
-  from_start : s ≡ ran b 0 (pressure_spinodal maxdensity t (branch_start maxdensity branch))
-  from_start = e ∙ ap (λ (x : Float). ran b 0 (pressure_spinodal maxdensity t x)) es
-
-  pub branch_found : (v : Values) (a : Answer) → s.answer ≡ Ok v → a ≡ branch_answer branch v → record { answer = a; evaluations = s.evaluations } ≡ ran b 0 (pressure_spinodal_branch maxdensity t branch)
-  unfolding pressure_spinodal_branch
-  branch_found v a f ea = rw ea (then_done b (pressure_spinodal maxdensity t (branch_start maxdensity branch)) (branch_answer branch) s v from_start f)
-
-  pub branch_refused : (r : Refusal) → s.answer ≡ Err r → record { answer = Err r; evaluations = s.evaluations } ≡ ran b 0 (pressure_spinodal_branch maxdensity t branch)
-  unfolding pressure_spinodal_branch
-  branch_refused r f = then_refused b (pressure_spinodal maxdensity t (branch_start maxdensity branch)) (λ v. done (branch_answer branch v)) s r from_start f
+  pub spinodal_rounds : (n : ℕ) (ρ : Float) (e : Ran) → RunsRounds R NotConverged 0 n ρ e → e ≡ ran b 0 (spinodal_from maxdensity t n ρ)
+  unfolding spinodal_from
+  spinodal_rounds n ρ e h = runs_rounds R NotConverged b (spinodal_from maxdensity t) (λ s. refl) spinodal_turn 0 n ρ e h
 
 -- ---- the unstable region
 cond_settle : (b : Bool) (s : Search) → settled (cond b s (refuse NotFinite)) ≡ cond b (settled s) (refuse NotFinite)
@@ -95,18 +79,19 @@ module _ (b : Blend) (c : Conditions) where
   abbrev pub in_unstable : ℕ → Float → Float → Search
   in_unstable n ρ error = and_then (unstable c ρ error) (λ v. density_from c n v.first)
 
-  pub slope_turn : (ρ : Float) (left n : ℕ) (y : Pressure) (o : SlopeOutcome) (w : Ran) → 0 < left → y ≡ p_dpdrho b c.temperature ρ → o ≡ slope_round c ρ y
-      → ran b n (density_from c left ρ) ≡ w → ran b (n + 1) (slope_led o (in_unstable (left - 1) ρ) (density_from c (left - 1))) ≡ w
+  -- m of n rounds were made, after k evaluations
+  pub slope_turn : (ρ : Float) (m n k : ℕ) (y : Pressure) (o : SlopeOutcome) (w : Ran) → m < n → y ≡ p_dpdrho b c.temperature ρ → o ≡ slope_round c ρ y
+      → ran b k (density_from c (n - m) ρ) ≡ w → ran b (k + 1) (slope_led o (in_unstable (n - (m + 1)) ρ) (density_from c (n - (m + 1)))) ≡ w
   unfolding run density_from evaluated
-  slope_turn ρ zero n y o w h ey eo e = absurd (omega arith)
-  slope_turn ρ (suc m) n y o w h ey eo e =
-      let q : suc m - 1 ≡ m = omega arith in
-      rw (q, eo, ey) (same_run b (n + 1) _ _ (sym (slope_led_lem c ρ (p_dpdrho b c.temperature ρ) (in_unstable m ρ) (density_from c m))) ∙ e)
+  slope_turn ρ m n k y o w h ey eo e =
+      rw (eo, ey) (same_run b (k + 1) _ _ (sym (slope_led_lem c ρ (p_dpdrho b c.temperature ρ) (in_unstable (n - (m + 1)) ρ) (density_from c (n - (m + 1))))) ∙ one_more)
+    where
+      one_more : ran b k (density_from c (suc (n - (m + 1))) ρ) ≡ w
+      one_more = let q : n - m ≡ suc (n - (m + 1)) = omega arith in rw q at e
 
-  pub density_over : (ρ : Float) (left n : ℕ) (w : Ran) → left ≤ 0 → ran b n (density_from c left ρ) ≡ w → record { answer = Err NotConverged; evaluations = n } ≡ w
+  pub density_over : (ρ : Float) (m n k : ℕ) (w : Ran) → n ≤ m → ran b k (density_from c (n - m) ρ) ≡ w → record { answer = Err NotConverged; evaluations = k } ≡ w
   unfolding run density_from
-  density_over ρ zero n w h e = e
-  density_over ρ (suc m) n w h e = absurd (omega arith)
+  density_over ρ m n k w h e = let q : n - m ≡ 0 = omega arith in rw q at e
 
   pub first_turn : (y : Pressure) (o : SlopeOutcome) → le c.start f0 ≡ false → y ≡ p_dpdrho b c.temperature c.start → o ≡ slope_round c c.start y
       → ran b 1 (slope_led o (λ error. density_from c 50 (corrected c)) (density_from c 49)) ≡ ran b 0 (density_search c)

@@ -7,8 +7,9 @@ use Rattle.float.specs.Sign.{finite_of, negative_of}
 use Rattle.evaluations.specs.declared.types.Pressure.{Pressure}
 use Rattle.solver.specs.declared.types.Refusal.TheVariants.{NotFinite}
 use Rattle.solver.specs.Answer.{Answer}
-use Rattle.std.specs.Prelude.{Ok, Err}
+use Rattle.std.specs.Prelude.{Err}
 use Rattle.solver.specs.Search.{Search, done, refuse, tested, bind, settle}
+use Rattle.solver.proofs.Turns.{led}
 use Rattle.solver.proofs.Steps.{settle_tested, settled, cond_both, settled_bind}
 use Rattle.solver_density.specs.declared.types.Conditions.{Conditions}
 use Rattle.solver.specs.Answer.{Progress}
@@ -27,10 +28,6 @@ tests3 y t =
     ∙ cond_both (finite_of y.p) _ (settled t) (refuse NotFinite))
 
 -- ---- a round of a spinodal search
-unfoldable pub led : Progress Float → (Float → Search) → Search
-led (Break a) again = done a
-led (Continue ρ) again = again ρ
-
 outcome_led : (o : Progress Float) (again : Float → Search) → settled (continued o again) ≡ settled (led (tested_outcome o) again)
 unfolding settle continued tested_outcome led
 outcome_led (Break a) again = refl

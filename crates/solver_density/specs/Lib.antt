@@ -3,3 +3,4 @@ pub mod Density
 pub mod Stable
 pub mod Rounds
 pub mod NotFinite
+pub mod Ways

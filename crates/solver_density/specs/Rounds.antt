@@ -4,7 +4,7 @@ use Rattle.float.specs.Ops.{◌⊖◌}
 use Rattle.float.specs.Sign.{finite_of, negative_of}
 use Rattle.evaluations.specs.declared.types.Pressure.{Pressure}
 use Rattle.solver.specs.declared.types.Refusal.TheVariants.{NotFinite}
-use Rattle.std.specs.Prelude.{Ok, Err}
+use Rattle.std.specs.Prelude.{Err}
 use Rattle.solver_density.specs.declared.types.Conditions.{Conditions}
 use Rattle.solver.specs.Answer.{Progress}
 use Rattle.std.specs.declared.ops.ControlFlow.TheVariants.{Break, Continue}

@@ -17,14 +17,13 @@ use solver::{Answer, DensityInitialization, Ran, Refusal, Values};
 pub fn found_density(rho: f64) -> Answer
     ensures { result ≡ density_answer rho }
 {
-    let found = Values {
+    Ok(Values {
         first: rho,
-        second: 0.0,
-        third: 0.0,
-    };
-    Ok(found)
+        ..Values::default()
+    })
 }
 
+#[tactic(auto, unfolding(crate::specs::Density::start_of))]
 fn start_of(maxdensity: f64, t: f64, p: f64, initial: DensityInitialization) -> f64
     ensures { result ≡ start_of maxdensity t p initial }
 {
@@ -36,6 +35,7 @@ fn start_of(maxdensity: f64, t: f64, p: f64, initial: DensityInitialization) -> 
 }
 
 // where a density search begins
+#[tactic(auto, unfolding(crate::specs::Density::conditions_of))]
 pub fn conditions(maxdensity: f64, t: f64, p: f64, initial: DensityInitialization) -> Conditions
     ensures { result ≡ conditions_of maxdensity t p initial }
 {
@@ -48,18 +48,19 @@ pub fn conditions(maxdensity: f64, t: f64, p: f64, initial: DensityInitializatio
 }
 
 // attempt to correct for poor initial density
+#[tactic(auto, unfolding(crate::specs::Density::corrected))]
 pub fn correct(c: Conditions) -> f64
     ensures { result ≡ corrected c }
 {
-    let start = c.start;
-    let maxdensity = c.maxdensity;
-    if start <= 0.15 * maxdensity {
-        return 0.05 * start;
+    if c.start <= 0.15 * c.maxdensity {
+        0.05 * c.start
+    } else {
+        float::min(1.1 * c.start, c.maxdensity)
     }
-    float::min(1.1 * start, maxdensity)
 }
 
 // the Newton step with its caps
+#[tactic(auto, unfolding(crate::specs::Density::newton))]
 fn newton(c: Conditions, rho: f64, error: f64, dpdrho: f64) -> f64
     ensures { result ≡ newton_of c rho error dpdrho }
 {
@@ -67,12 +68,14 @@ fn newton(c: Conditions, rho: f64, error: f64, dpdrho: f64) -> f64
     rho + float::max(delta_rho, -0.95 * rho)
 }
 
+#[tactic(auto, unfolding(crate::specs::Density::converged))]
 fn has_converged(error: f64, rho: f64) -> bool
     ensures { result ≡ converged error rho }
 {
     float::abs(error) < float::max(1e-12, rho * 1e-14)
 }
 
+#[tactic(auto, unfolding(crate::specs::Rounds::newton_round))]
 fn newton_round(c: Conditions, rho: f64, error: f64, dpdrho: f64) -> SlopeOutcome
     ensures { result ≡ newton_round c rho error dpdrho }
 {
@@ -87,108 +90,98 @@ fn newton_round(c: Conditions, rho: f64, error: f64, dpdrho: f64) -> SlopeOutcom
 }
 
 // a round at rho, with its tests for 27
+#[tactic(auto, unfolding(crate::specs::Rounds::slope_round))]
 pub fn slope_round(c: Conditions, rho: f64, y: Pressure) -> SlopeOutcome
     ensures { result ≡ slope_round c rho y }
 {
-    let p = y.p;
-    let dpdrho = y.dp_drho;
-    if !float::is_finite(p) {
+    if !float::is_finite(y.p) || !float::is_finite(y.dp_drho) {
         return SlopeOutcome::NotFinite;
     }
-    if !float::is_finite(dpdrho) {
-        return SlopeOutcome::NotFinite;
+    let error = y.p - c.pressure;
+    if float::is_negative(y.dp_drho) {
+        SlopeOutcome::Unstable(error)
+    } else {
+        newton_round(c, rho, error, y.dp_drho)
     }
-    let error = p - c.pressure;
-    if float::is_negative(dpdrho) {
-        return SlopeOutcome::Unstable(error);
-    }
-    newton_round(c, rho, error, dpdrho)
 }
 
 // which of the five detours leads out of the unstable region
+#[tactic(auto, unfolding(crate::specs::Density::detour_of))]
 pub fn detour_of(maxdensity: f64, rho: f64, error: f64, curvature: f64) -> Detour
     ensures { result ≡ detour_of maxdensity rho error curvature }
 {
     if rho > 0.85 * maxdensity {
         return Detour::ByNearest(Nearest::HighDensity);
     }
-    if float::is_negative(error) {
-        if float::is_negative(curvature) {
-            return Detour::ByNearest(Nearest::BelowConcave);
-        }
-        return Detour::ByBoth(Both::BelowConvex);
+    match (float::is_negative(error), float::is_negative(curvature)) {
+        (true, true) => Detour::ByNearest(Nearest::BelowConcave),
+        (true, false) => Detour::ByBoth(Both::BelowConvex),
+        (false, true) => Detour::ByBoth(Both::AboveConcave),
+        (false, false) => Detour::ByNearest(Nearest::AboveConvex),
     }
-    if float::is_negative(curvature) {
-        return Detour::ByBoth(Both::AboveConcave);
-    }
-    Detour::ByNearest(Nearest::AboveConvex)
 }
 
+#[tactic(auto, unfolding(crate::specs::Density::beside_spinodal))]
 fn beside_spinodal(c: Conditions, sp: Values) -> f64
     ensures { result ≡ beside_spinodal c sp }
 {
-    let maxdensity = c.maxdensity;
     if float::is_negative(sp.first - c.pressure) {
-        return float::min(sp.second * 1.1, maxdensity);
+        float::min(sp.second * 1.1, c.maxdensity)
+    } else {
+        0.001 * c.maxdensity
     }
-    0.001 * maxdensity
 }
 
 // where a detour through the nearest spinodal leads
+#[tactic(auto, unfolding(crate::specs::Density::after_nearest))]
 pub fn after_nearest(c: Conditions, way: Nearest, sp: Values) -> Answer
     ensures { result ≡ after_nearest c way sp }
 {
-    let maxdensity = c.maxdensity;
     let rho = sp.second;
     let below = float::is_negative(sp.first - c.pressure);
     match way {
-        Nearest::HighDensity => {
-            if rho > 0.85 * maxdensity {
-                if below {
-                    return Err(Refusal::IterationFailed);
-                }
-                return found_density(rho * 0.98);
+        Nearest::HighDensity if rho > 0.85 * c.maxdensity => {
+            if below {
+                Err(Refusal::IterationFailed)
+            } else {
+                found_density(rho * 0.98)
             }
-            found_density(beside_spinodal(c, sp))
         }
-        Nearest::AboveConvex => found_density(beside_spinodal(c, sp)),
+        Nearest::HighDensity | Nearest::AboveConvex => found_density(beside_spinodal(c, sp)),
         Nearest::BelowConcave => {
             if below {
-                return found_density(0.8 * maxdensity);
+                found_density(0.8 * c.maxdensity)
+            } else {
+                found_density(rho * 0.8)
             }
-            found_density(rho * 0.8)
         }
     }
 }
 
 // where a detour through both spinodals leads
+#[tactic(auto, unfolding(crate::specs::Density::after_both))]
 pub fn after_both(c: Conditions, way: Both, liquid: f64, v: Values) -> f64
     ensures { result ≡ after_both c way liquid v }
 {
-    let start = c.start;
     let vapor = v.second;
     let below = float::is_negative(v.first - c.pressure);
-    let to_vapor = float::abs(start - vapor);
-    let to_liquid = float::abs(start - liquid);
+    let to_vapor = float::abs(c.start - vapor);
+    let to_liquid = float::abs(c.start - liquid);
     let beyond_liquid = float::min(liquid * 1.1, c.maxdensity);
     match way {
         Both::BelowConvex => {
-            if below {
-                return beyond_liquid;
+            if !below && to_vapor < to_liquid {
+                0.8 * vapor
+            } else {
+                beyond_liquid
             }
-            if to_vapor < to_liquid {
-                return 0.8 * vapor;
-            }
-            beyond_liquid
         }
         Both::AboveConcave => {
-            if below {
-                if to_vapor > to_liquid {
-                    return beyond_liquid;
-                }
-                return 0.8 * vapor;
+            if below && to_vapor > to_liquid {
+                beyond_liquid
+            } else {
+                0.8 * vapor
             }
-            0.8 * vapor
         }
     }
 }
@@ -197,17 +190,9 @@ fn by_nearest(blend: Blend, c: Conditions, way: Nearest) -> Ran
     ensures { result ≡ run finite_of (evaluated blend) 0 (detour_tree c (Detour.ByNearest way)) }
 {
     let s = spinodal_search(blend, c.maxdensity, c.temperature, c.start);
-    let evaluations = s.evaluations;
-    let answer = s.answer;
-    match answer {
-        Ok(sp) => Ran {
-            answer: after_nearest(c, way, sp),
-            evaluations,
-        },
-        Err(refusal) => Ran {
-            answer: Err(refusal),
-            evaluations,
-        },
+    Ran {
+        answer: s.answer.and_then(|sp| after_nearest(c, way, sp)),
+        ..s
     }
 }
 
@@ -216,40 +201,23 @@ fn by_vapor(blend: Blend, c: Conditions, way: Both, liquid: f64) -> Ran
     ensures { result ≡ run finite_of (evaluated blend) 0 (vapor_tree c way liquid) }
 {
     let s = branch_search(blend, c.maxdensity, c.temperature, Branch::Vapor);
-    let evaluations = s.evaluations;
-    let answer = s.answer;
-    match answer {
-        Ok(v) => Ran {
-            answer: found_density(after_both(c, way, liquid, v)),
-            evaluations,
-        },
-        Err(refusal) => Ran {
-            answer: Err(refusal),
-            evaluations,
-        },
+    Ran {
+        answer: s
+            .answer
+            .and_then(|v| found_density(after_both(c, way, liquid, v))),
+        ..s
     }
 }
 
 fn by_both(blend: Blend, c: Conditions, way: Both) -> Ran
     ensures { result ≡ run finite_of (evaluated blend) 0 (detour_tree c (Detour.ByBoth way)) }
 {
-    let s = branch_search(blend, c.maxdensity, c.temperature, Branch::Liquid);
-    let evaluations = s.evaluations;
-    let answer = s.answer;
-    match answer {
-        Ok(liquid) => {
-            let v = by_vapor(blend, c, way, liquid.second);
-            let after = v.answer;
-            Ran {
-                answer: after,
-                evaluations: evaluations + v.evaluations,
-            }
-        }
-        Err(refusal) => Ran {
-            answer: Err(refusal),
-            evaluations,
-        },
-    }
+    branch_search(blend, c.maxdensity, c.temperature, Branch::Liquid).and_then(|liquid| by_vapor(
+        blend,
+        c,
+        way,
+        liquid.second,
+    ))
 }
 
 fn detour(blend: Blend, c: Conditions, way: Detour) -> Ran
@@ -266,17 +234,17 @@ fn unstable(blend: Blend, c: Conditions, rho: f64, error: f64) -> Ran
     ensures { result ≡ run finite_of (evaluated blend) 0 (unstable_tree c rho error) }
 {
     let y = evaluations::p_dpdrho_d2pdrho2(blend, c.temperature, rho);
-    if !all_finite(y) {
-        return Ran {
+    if all_finite(y) {
+        let d = detour(blend, c, detour_of(c.maxdensity, rho, error, y.d2p_drho2));
+        Ran {
+            evaluations: 1 + d.evaluations,
+            ..d
+        }
+    } else {
+        Ran {
             answer: Err(Refusal::NotFinite),
             evaluations: 1,
-        };
-    }
-    let d = detour(blend, c, detour_of(c.maxdensity, rho, error, y.d2p_drho2));
-    let answer = d.answer;
-    Ran {
-        answer,
-        evaluations: 1 + d.evaluations,
+        }
     }
 }
 
@@ -285,16 +253,12 @@ fn iterate(blend: Blend, c: Conditions, rounds: u64, start: f64) -> Ran
     requires { rounds ≤ 50 }
     ensures { result ≡ run finite_of (evaluated blend) 1 (density_from c rounds start) }
 {
-    let temperature = c.temperature;
     let mut rho = start;
-    let mut left = rounds;
-    let mut evaluations: u64 = 1;
-    'iteration: while 0 < left {
-        left -= 1;
+    let mut evaluations = 1;
+    for made in 0..rounds {
         evaluations += 1;
-        let y = evaluations::p_dpdrho(blend, temperature, rho);
-        let outcome = slope_round(c, rho, y);
-        match outcome {
+        let y = evaluations::p_dpdrho(blend, c.temperature, rho);
+        rho = match slope_round(c, rho, y) {
             SlopeOutcome::NotFinite => {
                 return Ran {
                     answer: Err(Refusal::NotFinite),
@@ -307,28 +271,16 @@ fn iterate(blend: Blend, c: Conditions, rounds: u64, start: f64) -> Ran
                     evaluations,
                 };
             }
-            SlopeOutcome::Next(next) => {
-                rho = next;
-                continue 'iteration;
-            }
+            SlopeOutcome::Next(next) => next,
             SlopeOutcome::Unstable(error) => {
                 let d = unstable(blend, c, rho, error);
                 evaluations += d.evaluations;
-                let answer = d.answer;
-                match answer {
-                    Ok(next) => {
-                        rho = next.first;
-                        continue 'iteration;
-                    }
-                    Err(refusal) => {
-                        return Ran {
-                            answer: Err(refusal),
-                            evaluations,
-                        };
-                    }
+                match d.answer {
+                    Ok(next) => next.first,
+                    Err(_) => return Ran { evaluations, ..d },
                 }
             }
-        }
+        };
     }
     Ran {
         answer: Err(Refusal::NotConverged),
@@ -347,8 +299,7 @@ pub fn density_search(blend: Blend, c: Conditions) -> Ran
         };
     }
     let y = evaluations::p_dpdrho(blend, c.temperature, start);
-    let outcome = slope_round(c, start, y);
-    match outcome {
+    match slope_round(c, start, y) {
         SlopeOutcome::NotFinite => Ran {
             answer: Err(Refusal::NotFinite),
             evaluations: 1,
@@ -362,6 +313,21 @@ pub fn density_search(blend: Blend, c: Conditions) -> Ran
     }
 }
 
+// kind 1 with the maximum density at hand
+#[tactic(auto, unfolding(crate::specs::Density::density_iteration))]
+pub fn iteration(
+    blend: Blend,
+    maxdensity: f64,
+    temperature: f64,
+    pressure: f64,
+    initial: DensityInitialization,
+) -> Ran
+    ensures { result ≡ run finite_of (evaluated blend) 0 (density_iteration maxdensity temperature pressure initial) }
+{
+    let c = conditions(maxdensity, temperature, pressure, initial);
+    density_search(blend, c)
+}
+
 // Kind 1. Hands out the density.
 pub fn density_iteration(
     blend: Blend,
@@ -372,8 +338,5 @@ pub fn density_iteration(
     ensures { result ≡ run finite_of (evaluated blend) 0 (density_iteration (max_density blend) temperature pressure initial) }
 {
     let maxdensity = eos::compute_max_density(blend);
-    density_search(
-        blend,
-        conditions(maxdensity, temperature, pressure, initial),
-    )
+    iteration(blend, maxdensity, temperature, pressure, initial)
 }

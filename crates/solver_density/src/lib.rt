@@ -5,6 +5,7 @@ mod density;
 mod spinodal;
 mod stable;
 mod types;
+mod ways;
 
 pub use crate::density::{
     after_both, after_nearest, conditions, correct, density_iteration, detour_of, found_density,

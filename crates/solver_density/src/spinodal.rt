@@ -14,15 +14,18 @@ use solver::{Answer, Progress, Ran, Refusal, Values};
 use std::ops::ControlFlow;
 
 // `delta`, kept within `most` in size
+#[tactic(auto, unfolding(crate::specs::Spinodal::capped))]
 pub fn cap(most: f64, delta: f64) -> f64
     ensures { result ≡ capped most delta }
 {
     if float::abs(delta) > most {
-        return most * float::signum(delta);
+        most * float::signum(delta)
+    } else {
+        delta
     }
-    delta
 }
 
+#[tactic(auto, unfolding(crate::specs::Spinodal::spinodal_step))]
 fn spinodal_step(maxdensity: f64, rho: f64, delta: f64) -> f64
     ensures { result ≡ spinodal_step maxdensity rho delta }
 {
@@ -30,6 +33,7 @@ fn spinodal_step(maxdensity: f64, rho: f64, delta: f64) -> f64
     rho + float::min(delta_rho, maxdensity - rho)
 }
 
+#[tactic(auto, unfolding(crate::specs::Spinodal::spinodal_outcome))]
 fn spinodal_outcome(maxdensity: f64, rho: f64, y: Pressure) -> Progress<f64>
     ensures { result ≡ spinodal_outcome maxdensity rho y }
 {
@@ -45,46 +49,42 @@ fn spinodal_outcome(maxdensity: f64, rho: f64, y: Pressure) -> Progress<f64>
     }
     let delta_rho = -dpdrho / d2pdrho2;
     if float::is_finite(delta_rho) {
-        return ControlFlow::Continue(spinodal_step(maxdensity, rho, delta_rho));
+        ControlFlow::Continue(spinodal_step(maxdensity, rho, delta_rho))
+    } else {
+        ControlFlow::Break(Err(Refusal::NotConverged))
     }
-    ControlFlow::Break(Err(Refusal::NotConverged))
 }
 
+#[tactic(auto, unfolding(crate::specs::Rounds::tested_outcome))]
 fn tested_outcome(outcome: Progress<f64>) -> Progress<f64>
     ensures { result ≡ tested_outcome outcome }
 {
-    match outcome {
-        ControlFlow::Break(answer) => ControlFlow::Break(answer),
-        ControlFlow::Continue(rho) => {
-            if float::is_finite(rho) {
-                return ControlFlow::Continue(rho);
-            }
-            ControlFlow::Break(Err(Refusal::NotFinite))
-        }
+    let rho = outcome?;
+    if float::is_finite(rho) {
+        ControlFlow::Continue(rho)
+    } else {
+        ControlFlow::Break(Err(Refusal::NotFinite))
     }
 }
 
 // what p_dpdrho_d2pdrho2 yields is finite
+#[tactic(auto, unfolding(crate::specs::Rounds::finite3))]
 pub fn all_finite(y: Pressure) -> bool
     ensures { result ≡ finite3 y }
 {
-    if !float::is_finite(y.p) {
-        return false;
-    }
-    if !float::is_finite(y.dp_drho) {
-        return false;
-    }
-    float::is_finite(y.d2p_drho2)
+    float::is_finite(y.p) && float::is_finite(y.dp_drho) && float::is_finite(y.d2p_drho2)
 }
 
 // a round at rho, with its tests for 27
+#[tactic(auto, unfolding(crate::specs::Rounds::spinodal_round))]
 pub fn spinodal_round(maxdensity: f64, rho: f64, y: Pressure) -> Progress<f64>
     ensures { result ≡ spinodal_round maxdensity rho y }
 {
     if all_finite(y) {
-        return tested_outcome(spinodal_outcome(maxdensity, rho, y));
+        tested_outcome(spinodal_outcome(maxdensity, rho, y))
+    } else {
+        ControlFlow::Break(Err(Refusal::NotFinite))
     }
-    ControlFlow::Break(Err(Refusal::NotFinite))
 }
 
 pub fn spinodal_search(blend: Blend, maxdensity: f64, temperature: f64, start: f64) -> Ran
@@ -96,32 +96,13 @@ pub fn spinodal_search(blend: Blend, maxdensity: f64, temperature: f64, start: f
             evaluations: 0,
         };
     }
-    let mut rho = start;
-    let mut left: u64 = 30;
-    let mut evaluations: u64 = 0;
-    while 0 < left {
-        left -= 1;
-        evaluations += 1;
+    solver::rounds(30, Refusal::NotConverged, start, |rho| {
         let y = evaluations::p_dpdrho_d2pdrho2(blend, temperature, rho);
-        let outcome = spinodal_round(maxdensity, rho, y);
-        match outcome {
-            ControlFlow::Break(answer) => {
-                return Ran {
-                    answer,
-                    evaluations,
-                };
-            }
-            ControlFlow::Continue(next) => {
-                rho = next;
-            }
-        }
-    }
-    Ran {
-        answer: Err(Refusal::NotConverged),
-        evaluations,
-    }
+        spinodal_round(maxdensity, rho, y)
+    })
 }
 
+#[tactic(auto, unfolding(crate::specs::Spinodal::branch_start))]
 pub fn branch_start(maxdensity: f64, branch: Branch) -> f64
     ensures { result ≡ branch_start maxdensity branch }
 {
@@ -131,6 +112,7 @@ pub fn branch_start(maxdensity: f64, branch: Branch) -> f64
     }
 }
 
+#[tactic(auto, unfolding(crate::specs::Spinodal::on_branch))]
 fn on_branch(branch: Branch, curvature: f64) -> bool
     ensures { result ≡ on_branch branch curvature }
 {
@@ -140,40 +122,28 @@ fn on_branch(branch: Branch, curvature: f64) -> bool
     }
 }
 
+#[tactic(auto, unfolding(crate::specs::Spinodal::branch_answer))]
 pub fn branch_answer(branch: Branch, found: Values) -> Answer
     ensures { result ≡ branch_answer branch found }
 {
     if on_branch(branch, found.third) {
-        let kept = Values {
-            first: found.first,
-            second: found.second,
+        Ok(Values {
             third: 0.0,
-        };
-        return Ok(kept);
+            ..found
+        })
+    } else {
+        Err(Refusal::WrongBranch)
     }
-    Err(Refusal::WrongBranch)
 }
 
 pub fn branch_search(blend: Blend, maxdensity: f64, temperature: f64, branch: Branch) -> Ran
     ensures { result ≡ run finite_of (evaluated blend) 0 (pressure_spinodal_branch maxdensity temperature branch) }
 {
-    let s = spinodal_search(
-        blend,
-        maxdensity,
-        temperature,
-        branch_start(maxdensity, branch),
-    );
-    let evaluations = s.evaluations;
-    let answer = s.answer;
-    match answer {
-        Ok(found) => Ran {
-            answer: branch_answer(branch, found),
-            evaluations,
-        },
-        Err(refusal) => Ran {
-            answer: Err(refusal),
-            evaluations,
-        },
+    let start = branch_start(maxdensity, branch);
+    let s = spinodal_search(blend, maxdensity, temperature, start);
+    Ran {
+        answer: s.answer.and_then(|found| branch_answer(branch, found)),
+        ..s
     }
 }
 

@@ -6,18 +6,20 @@ ghost use Rattle.solver.specs.Search.{run};
 ghost use Rattle.solver.specs.Evaluated.{evaluated};
 ghost use Rattle.solver_density.specs.Stable.{lower_potential, potentials as potentials_tree, stable_phase, density_iteration_stable};
 
-use crate::density::{conditions, density_search};
+use crate::density::iteration;
 use eos::Blend;
 use solver::{Answer, DensityInitialization, Ran, Refusal, Values};
 
 // the phase with the lower potential, the liquid where they are equal
+#[tactic(auto, unfolding(crate::specs::Stable::lower_potential))]
 pub fn lower_potential(liquid: Values, vapor: Values, of_liquid: f64, of_vapor: f64) -> Answer
     ensures { result ≡ lower_potential liquid vapor of_liquid of_vapor }
 {
     if of_liquid > of_vapor {
-        return Ok(vapor);
+        Ok(vapor)
+    } else {
+        Ok(liquid)
     }
-    Ok(liquid)
 }
 
 fn potentials(blend: Blend, temperature: f64, liquid: Values, vapor: Values) -> Ran
@@ -44,27 +46,19 @@ fn potentials(blend: Blend, temperature: f64, liquid: Values, vapor: Values) -> 
 }
 
 // both phases searched, each found or failed
+#[tactic(auto, unfolding(crate::specs::Stable::stable_phase, solver::specs::Search::run))]
 fn stable_phase(blend: Blend, temperature: f64, liquid: Answer, vapor: Answer) -> Ran
     ensures { result ≡ run finite_of (evaluated blend) 0 (stable_phase temperature liquid vapor) }
 {
-    match liquid {
-        Ok(l) => match vapor {
-            Ok(v) => potentials(blend, temperature, l, v),
-            Err(_) => Ran {
-                answer: Ok(l),
-                evaluations: 0,
-            },
-        },
-        Err(_) => match vapor {
-            Ok(v) => Ran {
-                answer: Ok(v),
-                evaluations: 0,
-            },
-            Err(_) => Ran {
-                answer: Err(Refusal::BothPhasesFailed),
-                evaluations: 0,
-            },
-        },
+    let answer = match (liquid, vapor) {
+        (Ok(l), Ok(v)) => return potentials(blend, temperature, l, v),
+        (Ok(l), Err(_)) => Ok(l),
+        (Err(_), Ok(v)) => Ok(v),
+        (Err(_), Err(_)) => Err(Refusal::BothPhasesFailed),
+    };
+    Ran {
+        answer,
+        evaluations: 0,
     }
 }
 
@@ -73,28 +67,25 @@ pub fn density_iteration_stable(blend: Blend, temperature: f64, pressure: f64) -
     ensures { result ≡ run finite_of (evaluated blend) 0 (density_iteration_stable (max_density blend) temperature pressure) }
 {
     let maxdensity = eos::compute_max_density(blend);
-    let of_liquid = conditions(
+    let liquid = iteration(
+        blend,
         maxdensity,
         temperature,
         pressure,
         DensityInitialization::Liquid,
     );
-    let liquid = density_search(blend, of_liquid);
     if pressure < maxdensity * temperature {
-        let of_vapor = conditions(
+        let vapor = iteration(
+            blend,
             maxdensity,
             temperature,
             pressure,
             DensityInitialization::Vapor,
         );
-        let vapor = density_search(blend, of_vapor);
-        let l = liquid.answer;
-        let v = vapor.answer;
-        let stable = stable_phase(blend, temperature, l, v);
-        let answer = stable.answer;
+        let stable = stable_phase(blend, temperature, liquid.answer, vapor.answer);
         return Ran {
-            answer,
             evaluations: liquid.evaluations + vapor.evaluations + stable.evaluations,
+            ..stable
         };
     }
     liquid

@@ -1,7 +1,7 @@
 // What the density and pressure spinodal searches pass between their functions.
 
 // What stays the same throughout one density search. `start` is the Rust's initial_density, as a number.
-#[derive(Clone, Copy)]
+#[derive(Clone, Copy, PartialEq)]
 pub struct Conditions {
     pub maxdensity: f64,
     pub temperature: f64,
@@ -10,7 +10,7 @@ pub struct Conditions {
 }
 
 // The branch of a spinodal: the two cases of DensityInitialization that the Rust takes there.
-#[derive(Clone, Copy)]
+#[derive(Clone, Copy, Debug, PartialEq, Eq)]
 pub enum Branch {
     Vapor,
     Liquid,
@@ -18,7 +18,7 @@ pub enum Branch {
 
 // What a round of a density search comes to: a number that is not finite, the density looked for, the next density, or
 // the unstable region with the error.
-#[derive(Clone, Copy)]
+#[derive(Clone, Copy, PartialEq)]
 pub enum SlopeOutcome {
     NotFinite,
     Converged(f64),
@@ -28,7 +28,7 @@ pub enum SlopeOutcome {
 
 // The detours out of the unstable region that lead through the spinodal nearest to the start. Above and below is
 // the pressure beside the one looked for, convex and concave its curvature.
-#[derive(Clone, Copy)]
+#[derive(Clone, Copy, Debug, PartialEq, Eq)]
 pub enum Nearest {
     HighDensity,
     AboveConvex,
@@ -36,13 +36,13 @@ pub enum Nearest {
 }
 
 // The detours that lead through the spinodals of both branches.
-#[derive(Clone, Copy)]
+#[derive(Clone, Copy, Debug, PartialEq, Eq)]
 pub enum Both {
     BelowConvex,
     AboveConcave,
 }
 
-#[derive(Clone, Copy)]
+#[derive(Clone, Copy, Debug, PartialEq, Eq)]
 pub enum Detour {
     ByNearest(Nearest),
     ByBoth(Both),

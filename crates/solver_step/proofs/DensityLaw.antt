@@ -23,12 +23,12 @@ use Rattle.solver_density.specs.Density.{density, corrected, detour_of, after_ne
 use Rattle.solver_density.specs.Rounds.{finite3}
 use Rattle.solver_density.proofs.Settles.{tests3, slope_led, slope_led_lem}
 use Rattle.solver.specs.Answer.{Progress}
-use Rattle.solver_step.specs.declared.types.SpinodalSpot.{SpinodalSpot}
+use Rattle.solver_step.specs.SpinodalStep.{SpinodalSpot}
 use Rattle.std.specs.declared.ops.ControlFlow.TheVariants.{Break, Continue}
 use Rattle.std.specs.Prelude.{Ok, Err}
 use Rattle.solver_step.specs.declared.types.DensitySpot.{DensitySpot}
 use Rattle.solver_step.specs.declared.types.DensitySpot.TheVariants.{First, Slope, Curvature, NearestSpinodal, LiquidSpinodal, VaporSpinodal}
-use Rattle.solver_step.specs.Phase.{Phase, Standing}
+use Rattle.solver_step.specs.Phase.{Standing}
 use Rattle.solver_step.specs.SpinodalStep.{spinodal_start, resume_spinodal, spinodal_left, branch_begin, resume_branch, branch_left}
 use Rattle.solver_step.specs.DensityStep.{phase_answer, slope_at, arrived_at, slope_on, go_on, resume_density, density_left, density_at, first_on, nearest_on, vapor_on, liquid_on, detour_at, curvature_on, density_next, density_begin}
 use Rattle.solver_step.proofs.SpinodalLaw.{spinodal_law, spinodal_begins, spinodal_asks2, branch_law, branch_begins, branch_asks2}
@@ -142,14 +142,14 @@ module _ (c : Conditions) where
   density_law ev (Slope m ρ) n d = ap (moved n ρ) (slope_led_lem c ρ (ev (slope c.temperature ρ)) _ (density_from c m) ∙ sym (slope_on_lem m ρ _))
   density_law ev (Curvature m ρ error) n d = ap (moved n ρ) (sym (curvature_on_lem m ρ error (ev (curvature c.temperature ρ))))
   density_law ev (NearestSpinodal m way s) n d =
-      next_bind2 ev (resume_spinodal c.maxdensity c.temperature s) (by_nearest way) (on m) n d _ s.rho (spinodal_law c.maxdensity c.temperature ev s n d)
-      ∙ ap (moved n s.rho) (sym (nearest_on_lem m way _))
+      next_bind2 ev (resume_spinodal c.maxdensity c.temperature s) (by_nearest way) (on m) n d _ s.at (spinodal_law c.maxdensity c.temperature ev s n d)
+      ∙ ap (moved n s.at) (sym (nearest_on_lem m way _))
   density_law ev (LiquidSpinodal m way s) n d =
-      next_bind2 ev (resume_branch c.maxdensity c.temperature Liquid s) (by_liquid way) (on m) n d _ s.rho (branch_law c.maxdensity c.temperature Liquid ev s n d)
-      ∙ ap (moved n s.rho) (sym (liquid_on_lem m way _))
+      next_bind2 ev (resume_branch c.maxdensity c.temperature Liquid s) (by_liquid way) (on m) n d _ s.at (branch_law c.maxdensity c.temperature Liquid ev s n d)
+      ∙ ap (moved n s.at) (sym (liquid_on_lem m way _))
   density_law ev (VaporSpinodal m way ρl s) n d =
-      next_bind2 ev (resume_branch c.maxdensity c.temperature Vapor s) (by_vapor way ρl) (on m) n d _ s.rho (branch_law c.maxdensity c.temperature Vapor ev s n d)
-      ∙ ap (moved n s.rho) (sym (vapor_on_lem m way ρl _))
+      next_bind2 ev (resume_branch c.maxdensity c.temperature Vapor s) (by_vapor way ρl) (on m) n d _ s.at (branch_law c.maxdensity c.temperature Vapor ev s n d)
+      ∙ ap (moved n s.at) (sym (vapor_on_lem m way ρl _))
 
   pub density_begins : density_left c (density_begin c) ≡ settled (density_search c)
   unfolding density_left resume_density phase_answer density_begin density_search settle first_round

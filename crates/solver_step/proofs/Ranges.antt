@@ -12,6 +12,7 @@ use Rattle.solver.specs.Answer.{Answer}
 use Rattle.solver.specs.Answer.{status_of}
 use Rattle.solver.specs.Stored.{status_fits}
 use Rattle.solver.specs.Search.{Evaluator}
+use Rattle.solver.specs.Rounds.{onward}
 use Rattle.solver.proofs.Ranges.{Fits, below, fits, status_fits_lem, ended_fits}
 use Rattle.solver_density.specs.declared.types.Branch.{Branch}
 use Rattle.solver_density.specs.declared.types.Branch.TheVariants.{Liquid, Vapor}
@@ -29,7 +30,7 @@ use Rattle.solver_density.specs.declared.types.Detour.TheVariants.{ByNearest, By
 use Rattle.solver_density.specs.Density.{detour_of, after_nearest}
 use Rattle.solver_density.specs.Rounds.{finite3}
 use Rattle.solver_density.specs.Spinodal.{branch_start}
-use Rattle.solver_step.specs.declared.types.SpinodalSpot.{SpinodalSpot}
+use Rattle.solver_step.specs.SpinodalStep.{SpinodalSpot}
 use Rattle.solver_step.specs.Phase.{Phase, Standing}
 use Rattle.std.specs.Prelude.{Ok, Err}
 use Rattle.solver_step.specs.declared.types.DensitySpot.{DensitySpot}
@@ -39,7 +40,8 @@ use Rattle.solver_step.specs.declared.types.StableSpot.TheVariants.{LiquidSearch
 use Rattle.solver_step.specs.SpinodalStep.{spinodal_on, spinodal_start, spinodal_next, branch_place, branch_begin, branch_next}
 use Rattle.solver_step.specs.DensityStep.{phase_answer, slope_at, arrived_at, slope_on, first_on, nearest_on, vapor_on, liquid_on, detour_at, curvature_on, density_next, density_begin}
 use Rattle.solver_step.specs.StableStep.{phases_on, vapor_search_on, liquid_potential_on, vapor_potential_on, of_liquid, of_vapor, liquid_search_on, stable_next, stable_begin}
-use Rattle.solver_step.specs.Stored.{nearest_number, both_number, spot_numbers, spinodal_numbers, density_spot_numbers, density_numbers, staged, potential_numbers, stable_numbers}
+use Rattle.solver_density.specs.Ways.{nearest_number, both_number}
+use Rattle.solver_step.specs.Stored.{spot_numbers, spinodal_numbers, density_spot_numbers, density_numbers, staged, potential_numbers, stable_numbers}
 
 -- ---- spinodal searches: fewer than 50 rounds left
 data Few : Progress SpinodalSpot → Type 0 where
@@ -47,7 +49,7 @@ data Few : Progress SpinodalSpot → Type 0 where
   at : {s : SpinodalSpot} → s.rounds < 50 → Few (Continue s)
 
 on_few : (n : ℕ) (o : Progress Float) → n < 50 → Few (spinodal_on n o)
-unfolding spinodal_on
+unfolding onward
 on_few n (Break a) h = Few.ended
 on_few zero (Continue ρ) h = Few.ended
 on_few (suc n) (Continue ρ) h = let l : n < 50 = omega arith in Few.at l
@@ -56,7 +58,7 @@ start_few : (ρ : Float) → Few (spinodal_start ρ)
 unfolding spinodal_start
 start_few ρ = go (le ρ f0)
   where
-    go : (b : Bool) → Few (cond b (Break (Err StartNotPositive)) (Continue (record { rounds = 29; rho = ρ })))
+    go : (b : Bool) → Few (cond b (Break (Err StartNotPositive)) (Continue (record { rounds = 29; at = ρ })))
     go true = Few.ended
     go false = let l : 29 < 50 = omega arith in Few.at l
 

@@ -14,29 +14,31 @@ use Rattle.solver_density.specs.declared.types.Branch.{Branch}
 use Rattle.solver.specs.Answer.{Progress}
 use Rattle.std.specs.declared.ops.ControlFlow.TheVariants.{Break, Continue}
 use Rattle.solver_density.specs.Spinodal.{spinodal_from, pressure_spinodal, branch_start, branch_answer, pressure_spinodal_branch}
-use Rattle.solver_density.proofs.Settles.{led, round_led}
-use Rattle.solver_step.specs.declared.types.SpinodalSpot.{SpinodalSpot}
+use Rattle.solver.specs.Rounds.{onward}
+use Rattle.solver.proofs.Turns.{led}
+use Rattle.solver_density.proofs.Settles.{round_led}
+use Rattle.solver_step.specs.SpinodalStep.{SpinodalSpot}
 use Rattle.solver_step.specs.SpinodalStep.{spinodal_on, spinodal_start, resume_spinodal, spinodal_left, spinodal_next, branch_place, branch_begin, resume_branch, branch_left, branch_next}
 
 module _ (maxdensity t : Float) where
   -- ---- kind 3
   spinodal_on_lem : (n : ℕ) (o : Progress Float) → spinodal_left maxdensity t (spinodal_on n o) ≡ settled (led o (spinodal_from maxdensity t n))
-  unfolding spinodal_left resume_spinodal spinodal_on settle led spinodal_from
+  unfolding spinodal_left resume_spinodal onward settle led spinodal_from
   spinodal_on_lem n (Break a) = refl
   spinodal_on_lem zero (Continue ρ) = refl
   spinodal_on_lem (suc n) (Continue ρ) = refl
 
   pub spinodal_law : (ev : Evaluator) (s : SpinodalSpot) (n : ℕ) (d : Float)
-      → next_of finite_of ev (resume_spinodal maxdensity t s) n d ≡ moved n s.rho (spinodal_left maxdensity t (spinodal_next maxdensity t ev s))
+      → next_of finite_of ev (resume_spinodal maxdensity t s) n d ≡ moved n s.at (spinodal_left maxdensity t (spinodal_next maxdensity t ev s))
   unfolding next_of resume_spinodal spinodal_from spinodal_next
   spinodal_law ev s n d =
-      ap (moved n s.rho) (round_led maxdensity s.rho (ev (curvature t s.rho)) (spinodal_from maxdensity t s.rounds) ∙ sym (spinodal_on_lem s.rounds _))
+      ap (moved n s.at) (round_led maxdensity s.at (ev (curvature t s.at)) (spinodal_from maxdensity t s.rounds) ∙ sym (spinodal_on_lem s.rounds _))
 
   pub spinodal_begins : (ρ : Float) → spinodal_left maxdensity t (spinodal_start ρ) ≡ settled (pressure_spinodal maxdensity t ρ)
   unfolding spinodal_left resume_spinodal spinodal_start settle pressure_spinodal spinodal_from
   spinodal_begins ρ = go (le ρ f0)
     where
-      go : (b : Bool) → spinodal_left maxdensity t (cond b (Break (Err StartNotPositive)) (Continue (record { rounds = 29; rho = ρ }))) ≡ settled (cond b (refuse StartNotPositive) (spinodal_from maxdensity t 30 ρ))
+      go : (b : Bool) → spinodal_left maxdensity t (cond b (Break (Err StartNotPositive)) (Continue (record { rounds = 29; at = ρ }))) ≡ settled (cond b (refuse StartNotPositive) (spinodal_from maxdensity t 30 ρ))
       go true = refl
       go false = refl
 
@@ -61,11 +63,11 @@ module _ (maxdensity t : Float) where
     branch_place_lem (Continue s) = sym (spinodal_asks s ends)
 
     pub branch_law : (ev : Evaluator) (s : SpinodalSpot) (n : ℕ) (d : Float)
-        → next_of finite_of ev (resume_branch maxdensity t branch s) n d ≡ moved n s.rho (branch_left maxdensity t branch (branch_next maxdensity t branch ev s))
+        → next_of finite_of ev (resume_branch maxdensity t branch s) n d ≡ moved n s.at (branch_left maxdensity t branch (branch_next maxdensity t branch ev s))
     unfolding resume_branch branch_next
     branch_law ev s n d =
-        next_bind finite_of ev (resume_spinodal maxdensity t s) ends n d _ s.rho (spinodal_law ev s n d)
-        ∙ ap (moved n s.rho) (sym (branch_place_lem (spinodal_next maxdensity t ev s)))
+        next_bind finite_of ev (resume_spinodal maxdensity t s) ends n d _ s.at (spinodal_law ev s n d)
+        ∙ ap (moved n s.at) (sym (branch_place_lem (spinodal_next maxdensity t ev s)))
 
     pub branch_begins : branch_left maxdensity t branch (branch_begin maxdensity branch) ≡ settled (pressure_spinodal_branch maxdensity t branch)
     unfolding branch_begin pressure_spinodal_branch

@@ -8,12 +8,12 @@ use Rattle.float.specs.Ops.{f0}
 use Rattle.solver.specs.declared.types.Refusal.TheVariants.{StartNotPositive, NotConverged, IterationFailed, BothPhasesFailed, WrongBranch, Supercritical, NotFinite}
 use Rattle.solver.specs.declared.types.Numbers.{Numbers}
 use Rattle.solver.specs.Answer.{number_of, status_of, values_of}
-use Rattle.solver.specs.Stored.{refusal_by, ended_numbers}
+use Rattle.solver.specs.Stored.{refusal_by, answer_by, ended_numbers}
 use Rattle.solver.proofs.StoredBack.{answer_back}
 use Rattle.solver_density.specs.declared.types.Nearest.TheVariants.{HighDensity, AboveConvex, BelowConcave}
 use Rattle.solver_density.specs.declared.types.Both.TheVariants.{BelowConvex, AboveConcave}
 use Rattle.solver.specs.Answer.{Progress}
-use Rattle.solver_step.specs.declared.types.SpinodalSpot.{SpinodalSpot}
+use Rattle.solver_step.specs.SpinodalStep.{SpinodalSpot}
 use Rattle.std.specs.declared.ops.ControlFlow.TheVariants.{Break, Continue}
 use Rattle.solver_step.specs.Phase.{Phase, Standing}
 use Rattle.std.specs.Prelude.{Ok, Err}
@@ -22,7 +22,8 @@ use Rattle.solver_step.specs.declared.types.DensitySpot.TheVariants.{First, Slop
 use Rattle.solver_step.specs.declared.types.StableSpot.TheVariants.{LiquidSearch, VaporSearch, LiquidPotential, VaporPotential}
 use Rattle.solver_step.specs.declared.types.StableSpot.{StableSpot}
 use Rattle.solver_step.specs.DensityStep.{phase_answer}
-use Rattle.solver_step.specs.Stored.{nearest_number, nearest_by, both_number, both_by, spot_numbers, spinodal_numbers, spinodal_spot_by, spinodal_place_by, phase_by, density_spot_numbers, density_spot_by, density_numbers, density_place_by, staged, potential_numbers, stable_numbers, stable_spot_by, stable_place_by}
+use Rattle.solver_density.specs.Ways.{nearest_number, nearest_by, both_number, both_by}
+use Rattle.solver_step.specs.Stored.{spot_numbers, spinodal_numbers, spinodal_spot_by, spinodal_place_by, density_spot_numbers, density_spot_by, density_numbers, density_place_by, staged, potential_numbers, stable_numbers, stable_spot_by, stable_place_by, phase_by}
 
 pub spinodal_back : (p : Progress SpinodalSpot) → spinodal_place_by (spinodal_numbers p) ≡ p
 unfolding spinodal_place_by spinodal_spot_by spinodal_numbers ended_numbers spot_numbers
@@ -30,7 +31,7 @@ spinodal_back (Break a) = ap Break (answer_back a)
 spinodal_back (Continue s) = refl
 
 phase_back : (p : Phase) → phase_by (status_of (phase_answer p)) (values_of (phase_answer p)).first ≡ p
-unfolding phase_by refusal_by status_of values_of number_of phase_answer
+unfolding answer_by refusal_by status_of values_of number_of phase_answer
 phase_back (Ok ρ) = refl
 phase_back (Err StartNotPositive) = refl
 phase_back (Err NotConverged) = refl

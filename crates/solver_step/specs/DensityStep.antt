@@ -18,13 +18,12 @@ use Rattle.solver_density.specs.declared.types.Detour.TheVariants.{ByNearest, By
 use Rattle.solver_density.specs.Density.{density, corrected, detour_of, after_nearest, after_both, vapor, unstable, density_from, first_round}
 use Rattle.solver_density.specs.Rounds.{finite3, slope_round}
 use Rattle.solver.specs.Answer.{Progress}
-use Rattle.solver_step.specs.declared.types.SpinodalSpot.{SpinodalSpot}
 use Rattle.std.specs.declared.ops.ControlFlow.TheVariants.{Break, Continue}
 use Rattle.solver_step.specs.Phase.{Phase, Standing}
 use Rattle.std.specs.Prelude.{Ok, Err}
 use Rattle.solver_step.specs.declared.types.DensitySpot.{DensitySpot}
 use Rattle.solver_step.specs.declared.types.DensitySpot.TheVariants.{First, Slope, Curvature, NearestSpinodal, LiquidSpinodal, VaporSpinodal}
-use Rattle.solver_step.specs.SpinodalStep.{resume_spinodal, spinodal_start, spinodal_next, branch_begin, resume_branch, branch_next}
+use Rattle.solver_step.specs.SpinodalStep.{SpinodalSpot, resume_spinodal, spinodal_start, spinodal_next, branch_begin, resume_branch, branch_next}
 
 -- how a density search ended, as an answer
 unfoldable pub phase_answer : Phase → Answer
@@ -71,9 +70,9 @@ module _ (c : Conditions) where
   density_at First = c.start
   density_at (Slope n ρ) = ρ
   density_at (Curvature n ρ error) = ρ
-  density_at (NearestSpinodal n way s) = s.rho
-  density_at (LiquidSpinodal n way s) = s.rho
-  density_at (VaporSpinodal n way ρl s) = s.rho
+  density_at (NearestSpinodal n way s) = s.at
+  density_at (LiquidSpinodal n way s) = s.at
+  density_at (VaporSpinodal n way ρl s) = s.at
 
   -- where the first round leads
   unfoldable pub first_on : SlopeOutcome → Standing DensitySpot

@@ -1,5 +1,5 @@
 -- Kinds 3 and 4 one evaluation at a time: what is left at a spot, and where its evaluation leads. Definitions only.
-use Rattle.std.specs.Prelude.{ℕ, zero, suc, cond, Float}
+use Rattle.std.specs.Prelude.{ℕ, suc, cond, Float}
 use Rattle.std.specs.Float.Ieee.{le}
 use Rattle.float.specs.Ops.{f0}
 use Rattle.solver.specs.declared.types.Refusal.TheVariants.{StartNotPositive, NotConverged}
@@ -10,24 +10,27 @@ use Rattle.solver.specs.Answer.{Progress}
 use Rattle.std.specs.declared.ops.ControlFlow.TheVariants.{Break, Continue}
 use Rattle.solver_density.specs.Spinodal.{spinodal_from, branch_start, branch_answer}
 use Rattle.solver_density.specs.Rounds.{spinodal_round}
-use Rattle.solver_step.specs.declared.types.SpinodalSpot.{SpinodalSpot}
+use Rattle.solver.specs.declared.types.Spot.{Spot}
+use Rattle.solver.specs.Rounds.{onward}
 
 -- ---- kind 3
 
+-- the rounds left after this one, and the density
+abbrev pub SpinodalSpot : Type 0
+SpinodalSpot = Spot Float
+
 -- with n rounds left, where a round leads
-unfoldable pub spinodal_on : ℕ → Progress Float → Progress SpinodalSpot
-spinodal_on n (Break a) = Break a
-spinodal_on zero (Continue ρ) = Break (Err NotConverged)
-spinodal_on (suc n) (Continue ρ) = Continue (record { rounds = n; rho = ρ })
+abbrev pub spinodal_on : ℕ → Progress Float → Progress SpinodalSpot
+spinodal_on n o = onward n NotConverged o
 
 -- where a search from ρ begins
 unfoldable pub spinodal_start : Float → Progress SpinodalSpot
-spinodal_start ρ = cond (le ρ f0) (Break (Err StartNotPositive)) (Continue (record { rounds = 29; rho = ρ }))
+spinodal_start ρ = cond (le ρ f0) (Break (Err StartNotPositive)) (Continue (record { rounds = 29; at = ρ }))
 
 module _ (maxdensity t : Float) where
   -- the search that is left
   unfoldable pub resume_spinodal : SpinodalSpot → Search
-  resume_spinodal s = spinodal_from maxdensity t (suc s.rounds) s.rho
+  resume_spinodal s = spinodal_from maxdensity t (suc s.rounds) s.at
 
   unfoldable pub spinodal_left : Progress SpinodalSpot → Search
   spinodal_left (Break a) = done a
@@ -35,7 +38,7 @@ module _ (maxdensity t : Float) where
 
   -- the one evaluation, and where it leads
   unfoldable pub spinodal_next : Evaluator → SpinodalSpot → Progress SpinodalSpot
-  spinodal_next ev s = spinodal_on s.rounds (spinodal_round maxdensity s.rho (ev (curvature t s.rho)))
+  spinodal_next ev s = spinodal_on s.rounds (spinodal_round maxdensity s.at (ev (curvature t s.at)))
 
 -- ---- kind 4: the same, with the branch's answer at the end
 

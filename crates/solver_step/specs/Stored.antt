@@ -3,37 +3,17 @@ use Rattle.std.specs.Prelude.{ℕ, cond, Float, eqb}
 use Rattle.float.specs.Ops.{f0}
 use Rattle.solver.specs.declared.types.Numbers.{Numbers}
 use Rattle.solver.specs.Answer.{status_of, values_of}
-use Rattle.solver.specs.Stored.{refusal_by, answer_by, ended_numbers}
-use Rattle.solver_density.specs.declared.types.Nearest.{Nearest}
-use Rattle.solver_density.specs.declared.types.Nearest.TheVariants.{HighDensity, AboveConvex, BelowConcave}
-use Rattle.solver_density.specs.declared.types.Both.{Both}
-use Rattle.solver_density.specs.declared.types.Both.TheVariants.{BelowConvex, AboveConcave}
-use Rattle.solver_step.specs.declared.types.SpinodalSpot.{SpinodalSpot}
+use Rattle.solver.specs.Stored.{answer_by, ended_numbers}
+use Rattle.solver_density.specs.Ways.{nearest_number, nearest_by, both_number, both_by}
+use Rattle.solver_step.specs.SpinodalStep.{SpinodalSpot}
 use Rattle.solver.specs.Answer.{Progress}
 use Rattle.std.specs.declared.ops.ControlFlow.TheVariants.{Break, Continue}
 use Rattle.solver_step.specs.Phase.{Phase, Standing}
-use Rattle.std.specs.Prelude.{Ok, Err}
 use Rattle.solver_step.specs.declared.types.DensitySpot.{DensitySpot}
 use Rattle.solver_step.specs.declared.types.DensitySpot.TheVariants.{First, Slope, Curvature, NearestSpinodal, LiquidSpinodal, VaporSpinodal}
 use Rattle.solver_step.specs.declared.types.StableSpot.{StableSpot}
 use Rattle.solver_step.specs.declared.types.StableSpot.TheVariants.{LiquidSearch, VaporSearch, LiquidPotential, VaporPotential}
 use Rattle.solver_step.specs.DensityStep.{phase_answer}
-
--- ---- the detours
-unfoldable pub nearest_number : Nearest → ℕ
-nearest_number HighDensity = 0
-nearest_number AboveConvex = 1
-nearest_number BelowConcave = 2
-
-unfoldable pub nearest_by : ℕ → Nearest
-nearest_by n = cond (eqb n 0) HighDensity (cond (eqb n 1) AboveConvex BelowConcave)
-
-unfoldable pub both_number : Both → ℕ
-both_number BelowConvex = 0
-both_number AboveConcave = 1
-
-unfoldable pub both_by : ℕ → Both
-both_by n = cond (eqb n 0) BelowConvex AboveConcave
 
 -- ---- a place that asks
 unfoldable pub spot_numbers : (tag left way rounds : ℕ) (x y : Float) → Numbers
@@ -46,25 +26,25 @@ spot_numbers tag left way rounds x y =
 -- ---- kinds 3 and 4: tag 0 is the end, any other a round
 unfoldable pub spinodal_numbers : Progress SpinodalSpot → Numbers
 spinodal_numbers (Break a) = ended_numbers a
-spinodal_numbers (Continue s) = spot_numbers 1 0 0 s.rounds s.rho f0
+spinodal_numbers (Continue s) = spot_numbers 1 0 0 s.rounds s.at f0
 
 unfoldable pub spinodal_spot_by : Numbers → SpinodalSpot
-spinodal_spot_by n = record { rounds = n.counters.rounds; rho = n.values.first }
+spinodal_spot_by n = record { rounds = n.counters.rounds; at = n.values.first }
 
 unfoldable pub spinodal_place_by : Numbers → Progress SpinodalSpot
 spinodal_place_by n = cond (eqb n.counters.tag 0) (Break (answer_by n.counters.status n.values)) (Continue (spinodal_spot_by n))
 
 -- ---- kind 1: tag 0 is the end, 1 to 6 the places in the order of their type
-unfoldable pub phase_by : (status : ℕ) → Float → Phase
-phase_by status ρ = cond (eqb status 0) (Ok ρ) (Err (refusal_by status))
+abbrev pub phase_by : (status : ℕ) → Float → Phase
+phase_by status ρ = answer_by status ρ
 
 unfoldable pub density_spot_numbers : DensitySpot → Numbers
 density_spot_numbers First = spot_numbers 1 0 0 0 f0 f0
 density_spot_numbers (Slope n ρ) = spot_numbers 2 n 0 0 ρ f0
 density_spot_numbers (Curvature n ρ error) = spot_numbers 3 n 0 0 ρ error
-density_spot_numbers (NearestSpinodal n way s) = spot_numbers 4 n (nearest_number way) s.rounds s.rho f0
-density_spot_numbers (LiquidSpinodal n way s) = spot_numbers 5 n (both_number way) s.rounds s.rho f0
-density_spot_numbers (VaporSpinodal n way ρl s) = spot_numbers 6 n (both_number way) s.rounds s.rho ρl
+density_spot_numbers (NearestSpinodal n way s) = spot_numbers 4 n (nearest_number way) s.rounds s.at f0
+density_spot_numbers (LiquidSpinodal n way s) = spot_numbers 5 n (both_number way) s.rounds s.at f0
+density_spot_numbers (VaporSpinodal n way ρl s) = spot_numbers 6 n (both_number way) s.rounds s.at ρl
 
 unfoldable pub density_spot_by : Numbers → DensitySpot
 density_spot_by n =

@@ -12,29 +12,25 @@ use solver_density::{Both, Branch, Conditions, Detour, Nearest, SlopeOutcome};
 use std::ops::ControlFlow;
 
 // how a density search ended, as an answer
+#[tactic(auto, unfolding(crate::specs::DensityStep::phase_answer))]
 pub fn phase_answer(phase: Phase) -> Answer
     ensures { result ≡ phase_answer phase }
 {
-    match phase {
-        Ok(rho) => solver_density::found_density(rho),
-        Err(refusal) => Err(refusal),
-    }
+    solver_density::found_density(phase?)
 }
 
 // the next round, `left` being left with it
 fn slope_at(left: u64, rho: f64) -> Standing<DensitySpot>
     ensures { result ≡ slope_at left rho }
 {
-    if left == 0 {
-        return ControlFlow::Break(Err(Refusal::NotConverged));
+    match left.checked_sub(1) {
+        Some(left) => ControlFlow::Continue(DensitySpot::Slope { left, rho }),
+        None => ControlFlow::Break(Err(Refusal::NotConverged)),
     }
-    ControlFlow::Continue(DensitySpot::Slope {
-        left: left - 1,
-        rho,
-    })
 }
 
 // a detour's end
+#[tactic(auto, unfolding(crate::specs::DensityStep::arrived_at))]
 fn arrived_at(left: u64, answer: Answer) -> Standing<DensitySpot>
     ensures { result ≡ arrived_at left answer }
 {
@@ -45,6 +41,7 @@ fn arrived_at(left: u64, answer: Answer) -> Standing<DensitySpot>
 }
 
 // where a round at rho leads, `left` being left after it
+#[tactic(auto, unfolding(crate::specs::DensityStep::slope_on))]
 fn slope_on(left: u64, rho: f64, outcome: SlopeOutcome) -> Standing<DensitySpot>
     ensures { result ≡ slope_on left rho outcome }
 {
@@ -61,6 +58,7 @@ fn slope_on(left: u64, rho: f64, outcome: SlopeOutcome) -> Standing<DensitySpot>
 }
 
 // where the first round leads
+#[tactic(auto, unfolding(crate::specs::DensityStep::first_on))]
 fn first_on(c: Conditions, outcome: SlopeOutcome) -> Standing<DensitySpot>
     ensures { result ≡ first_on c outcome }
 {
@@ -76,6 +74,7 @@ fn first_on(c: Conditions, outcome: SlopeOutcome) -> Standing<DensitySpot>
 }
 
 // where the nearest spinodal's search stands, or what it leads to
+#[tactic(auto, unfolding(crate::specs::DensityStep::nearest_on))]
 fn nearest_on(
     c: Conditions,
     left: u64,
@@ -85,10 +84,8 @@ fn nearest_on(
     ensures { result ≡ nearest_on c left way place }
 {
     match place {
-        ControlFlow::Break(answer) => match answer {
-            Ok(sp) => arrived_at(left, solver_density::after_nearest(c, way, sp)),
-            Err(refusal) => ControlFlow::Break(Err(refusal)),
-        },
+        ControlFlow::Break(Ok(sp)) => arrived_at(left, solver_density::after_nearest(c, way, sp)),
+        ControlFlow::Break(Err(refusal)) => ControlFlow::Break(Err(refusal)),
         ControlFlow::Continue(at) => ControlFlow::Continue(DensitySpot::NearestSpinodal {
             left,
             way,
@@ -97,6 +94,7 @@ fn nearest_on(
     }
 }
 
+#[tactic(auto, unfolding(crate::specs::DensityStep::vapor_on))]
 fn vapor_on(
     c: Conditions,
     left: u64,
@@ -107,10 +105,8 @@ fn vapor_on(
     ensures { result ≡ vapor_on c left way liquid place }
 {
     match place {
-        ControlFlow::Break(answer) => match answer {
-            Ok(v) => slope_at(left, solver_density::after_both(c, way, liquid, v)),
-            Err(refusal) => ControlFlow::Break(Err(refusal)),
-        },
+        ControlFlow::Break(Ok(v)) => slope_at(left, solver_density::after_both(c, way, liquid, v)),
+        ControlFlow::Break(Err(refusal)) => ControlFlow::Break(Err(refusal)),
         ControlFlow::Continue(at) => ControlFlow::Continue(DensitySpot::VaporSpinodal {
             left,
             way,
@@ -120,6 +116,7 @@ fn vapor_on(
     }
 }
 
+#[tactic(auto, unfolding(crate::specs::DensityStep::liquid_on))]
 fn liquid_on(
     c: Conditions,
     left: u64,
@@ -129,13 +126,11 @@ fn liquid_on(
     ensures { result ≡ liquid_on c left way place }
 {
     match place {
-        ControlFlow::Break(answer) => match answer {
-            Ok(l) => {
-                let begin = branch_begin(c.maxdensity, Branch::Vapor);
-                vapor_on(c, left, way, l.second, begin)
-            }
-            Err(refusal) => ControlFlow::Break(Err(refusal)),
-        },
+        ControlFlow::Break(Ok(l)) => {
+            let begin = branch_begin(c.maxdensity, Branch::Vapor);
+            vapor_on(c, left, way, l.second, begin)
+        }
+        ControlFlow::Break(Err(refusal)) => ControlFlow::Break(Err(refusal)),
         ControlFlow::Continue(at) => ControlFlow::Continue(DensitySpot::LiquidSpinodal {
             left,
             way,
@@ -145,6 +140,7 @@ fn liquid_on(
 }
 
 // a detour begins
+#[tactic(auto, unfolding(crate::specs::DensityStep::detour_at))]
 fn detour_at(c: Conditions, left: u64, detour: Detour) -> Standing<DensitySpot>
     ensures { result ≡ detour_at c left detour }
 {
@@ -154,6 +150,7 @@ fn detour_at(c: Conditions, left: u64, detour: Detour) -> Standing<DensitySpot>
     }
 }
 
+#[tactic(auto, unfolding(crate::specs::DensityStep::curvature_on))]
 fn curvature_on(
     c: Conditions,
     left: u64,
@@ -165,22 +162,23 @@ fn curvature_on(
 {
     if solver_density::all_finite(y) {
         let detour = solver_density::detour_of(c.maxdensity, rho, error, y.d2p_drho2);
-        return detour_at(c, left, detour);
+        detour_at(c, left, detour)
+    } else {
+        ControlFlow::Break(Err(Refusal::NotFinite))
     }
-    ControlFlow::Break(Err(Refusal::NotFinite))
 }
 
 // the one evaluation at a spot, and where it leads
+#[tactic(auto, unfolding(crate::specs::DensityStep::density_next, solver::specs::Evaluated::evaluated))]
 pub fn density_next(blend: Blend, c: Conditions, spot: DensitySpot) -> Standing<DensitySpot>
     ensures { result ≡ density_next c (evaluated blend) spot }
 {
     let maxdensity = c.maxdensity;
     let t = c.temperature;
-    let start = c.start;
     match spot {
         DensitySpot::First => {
-            let y = evaluations::p_dpdrho(blend, t, start);
-            first_on(c, solver_density::slope_round(c, start, y))
+            let y = evaluations::p_dpdrho(blend, t, c.start);
+            first_on(c, solver_density::slope_round(c, c.start, y))
         }
         DensitySpot::Slope { left, rho } => {
             let y = evaluations::p_dpdrho(blend, t, rho);
@@ -217,43 +215,27 @@ pub fn density_next(blend: Blend, c: Conditions, spot: DensitySpot) -> Standing<
 }
 
 // the density of a spot's evaluation
+#[tactic(auto, unfolding(crate::specs::DensityStep::density_at))]
 pub fn density_at(c: Conditions, spot: DensitySpot) -> f64
     ensures { result ≡ density_at c spot }
 {
     match spot {
         DensitySpot::First => c.start,
-        DensitySpot::Slope { left: _, rho } => rho,
-        DensitySpot::Curvature {
-            left: _,
-            rho,
-            error: _,
-        } => rho,
-        DensitySpot::NearestSpinodal {
-            left: _,
-            way: _,
-            at,
-        } => at.rho,
-        DensitySpot::LiquidSpinodal {
-            left: _,
-            way: _,
-            at,
-        } => at.rho,
-        DensitySpot::VaporSpinodal {
-            left: _,
-            way: _,
-            liquid: _,
-            at,
-        } => at.rho,
+        DensitySpot::Slope { rho, .. } | DensitySpot::Curvature { rho, .. } => rho,
+        DensitySpot::NearestSpinodal { at, .. }
+        | DensitySpot::LiquidSpinodal { at, .. }
+        | DensitySpot::VaporSpinodal { at, .. } => at.at,
     }
 }
 
 // where a search begins
+#[tactic(auto, unfolding(crate::specs::DensityStep::density_begin))]
 pub fn density_begin(c: Conditions) -> Standing<DensitySpot>
     ensures { result ≡ density_begin c }
 {
-    let start = c.start;
-    if start <= 0.0 {
-        return ControlFlow::Break(Err(Refusal::StartNotPositive));
+    if c.start <= 0.0 {
+        ControlFlow::Break(Err(Refusal::StartNotPositive))
+    } else {
+        ControlFlow::Continue(DensitySpot::First)
     }
-    ControlFlow::Continue(DensitySpot::First)
 }

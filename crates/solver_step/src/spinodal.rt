@@ -9,35 +9,23 @@ use solver::{Progress, Refusal};
 use solver_density::Branch;
 use std::ops::ControlFlow;
 
-// where a round leads, `rounds` being left
-fn spinodal_on(rounds: u64, outcome: Progress<f64>) -> Progress<SpinodalSpot>
-    ensures { result ≡ spinodal_on rounds outcome }
-{
-    match outcome {
-        ControlFlow::Break(answer) => ControlFlow::Break(answer),
-        ControlFlow::Continue(rho) => {
-            if rounds == 0 {
-                return ControlFlow::Break(Err(Refusal::NotConverged));
-            }
-            ControlFlow::Continue(SpinodalSpot {
-                rounds: rounds - 1,
-                rho,
-            })
-        }
-    }
-}
-
 // where a search from rho begins
+#[tactic(auto, unfolding(crate::specs::SpinodalStep::spinodal_start))]
 pub fn spinodal_start(rho: f64) -> Progress<SpinodalSpot>
     ensures { result ≡ spinodal_start rho }
 {
     if rho <= 0.0 {
-        return ControlFlow::Break(Err(Refusal::StartNotPositive));
+        ControlFlow::Break(Err(Refusal::StartNotPositive))
+    } else {
+        ControlFlow::Continue(SpinodalSpot {
+            rounds: 29,
+            at: rho,
+        })
     }
-    ControlFlow::Continue(SpinodalSpot { rounds: 29, rho })
 }
 
 // the one evaluation at a spot, and where it leads
+#[tactic(auto, unfolding(crate::specs::SpinodalStep::spinodal_next, solver::specs::Evaluated::evaluated))]
 pub fn spinodal_next(
     blend: Blend,
     maxdensity: f64,
@@ -46,27 +34,24 @@ pub fn spinodal_next(
 ) -> Progress<SpinodalSpot>
     ensures { result ≡ spinodal_next maxdensity t (evaluated blend) spot }
 {
-    let rho = spot.rho;
+    let rho = spot.at;
     let y = evaluations::p_dpdrho_d2pdrho2(blend, t, rho);
-    spinodal_on(
+    solver::onward(
         spot.rounds,
+        Refusal::NotConverged,
         solver_density::spinodal_round(maxdensity, rho, y),
     )
 }
 
 // the branch's answer at the end of the spinodal's search
+#[tactic(auto, unfolding(crate::specs::SpinodalStep::branch_place))]
 fn branch_place(branch: Branch, place: Progress<SpinodalSpot>) -> Progress<SpinodalSpot>
     ensures { result ≡ branch_place branch place }
 {
-    match place {
-        ControlFlow::Break(answer) => match answer {
-            Ok(found) => ControlFlow::Break(solver_density::branch_answer(branch, found)),
-            Err(refusal) => ControlFlow::Break(Err(refusal)),
-        },
-        ControlFlow::Continue(spot) => ControlFlow::Continue(spot),
-    }
+    place.map_break(|answer| answer.and_then(|found| solver_density::branch_answer(branch, found)))
 }
 
+#[tactic(auto, unfolding(crate::specs::SpinodalStep::branch_begin))]
 pub fn branch_begin(maxdensity: f64, branch: Branch) -> Progress<SpinodalSpot>
     ensures { result ≡ branch_begin maxdensity branch }
 {
@@ -76,6 +61,7 @@ pub fn branch_begin(maxdensity: f64, branch: Branch) -> Progress<SpinodalSpot>
     )
 }
 
+#[tactic(auto, unfolding(crate::specs::SpinodalStep::branch_next))]
 pub fn branch_next(
     blend: Blend,
     maxdensity: f64,

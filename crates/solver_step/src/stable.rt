@@ -10,24 +10,20 @@ use solver::{DensityInitialization, Refusal};
 use std::ops::ControlFlow;
 
 // both phases searched: the potentials are next, or the end
+#[tactic(auto, unfolding(crate::specs::StableStep::phases_on))]
 fn phases_on(liquid: Phase, vapor: Phase) -> Standing<StableSpot>
     ensures { result ≡ phases_on liquid vapor }
 {
-    match liquid {
-        Ok(l) => match vapor {
-            Ok(v) => ControlFlow::Continue(StableSpot::LiquidPotential {
-                liquid: l,
-                vapor: v,
-            }),
-            Err(_) => ControlFlow::Break(Ok(l)),
-        },
-        Err(_) => match vapor {
-            Ok(v) => ControlFlow::Break(Ok(v)),
-            Err(_) => ControlFlow::Break(Err(Refusal::BothPhasesFailed)),
-        },
+    match (liquid, vapor) {
+        (Ok(liquid), Ok(vapor)) => {
+            ControlFlow::Continue(StableSpot::LiquidPotential { liquid, vapor })
+        }
+        (Ok(rho), Err(_)) | (Err(_), Ok(rho)) => ControlFlow::Break(Ok(rho)),
+        (Err(_), Err(_)) => ControlFlow::Break(Err(Refusal::BothPhasesFailed)),
     }
 }
 
+#[tactic(auto, unfolding(crate::specs::StableStep::vapor_search_on))]
 fn vapor_search_on(liquid: Phase, place: Standing<DensitySpot>) -> Standing<StableSpot>
     ensures { result ≡ vapor_search_on liquid place }
 {
@@ -37,6 +33,7 @@ fn vapor_search_on(liquid: Phase, place: Standing<DensitySpot>) -> Standing<Stab
     }
 }
 
+#[tactic(auto, unfolding(crate::specs::StableStep::liquid_search_on))]
 fn liquid_search_on(
     maxdensity: f64,
     t: f64,
@@ -57,19 +54,22 @@ fn liquid_search_on(
     }
 }
 
+#[tactic(auto, unfolding(crate::specs::StableStep::liquid_potential_on))]
 fn liquid_potential_on(liquid: f64, vapor: f64, potential: f64) -> Standing<StableSpot>
     ensures { result ≡ liquid_potential_on liquid vapor potential }
 {
     if float::is_finite(potential) {
-        return ControlFlow::Continue(StableSpot::VaporPotential {
+        ControlFlow::Continue(StableSpot::VaporPotential {
             liquid,
             vapor,
             potential,
-        });
+        })
+    } else {
+        ControlFlow::Break(Err(Refusal::NotFinite))
     }
-    ControlFlow::Break(Err(Refusal::NotFinite))
 }
 
+#[tactic(auto, unfolding(crate::specs::StableStep::vapor_potential_on))]
 fn vapor_potential_on(
     liquid: f64,
     vapor: f64,
@@ -78,16 +78,18 @@ fn vapor_potential_on(
 ) -> Standing<StableSpot>
     ensures { result ≡ vapor_potential_on liquid vapor of_liquid of_vapor }
 {
-    if float::is_finite(of_vapor) {
-        if of_liquid > of_vapor {
-            return ControlFlow::Break(Ok(vapor));
-        }
-        return ControlFlow::Break(Ok(liquid));
-    }
-    ControlFlow::Break(Err(Refusal::NotFinite))
+    ControlFlow::Break(if !float::is_finite(of_vapor) {
+        Err(Refusal::NotFinite)
+    } else if of_liquid > of_vapor {
+        Ok(vapor)
+    } else {
+        Ok(liquid)
+    })
 }
 
 // the one evaluation at a spot, and where it leads
+// The three numbers stand apart, as solver_state's job of kind 2 has them; a struct of them would be made only to be taken apart.
+#[tactic(auto, unfolding(crate::specs::StableStep::stable_next, solver::specs::Evaluated::evaluated))]
 pub fn stable_next(
     blend: Blend,
     maxdensity: f64,
@@ -127,6 +129,7 @@ pub fn stable_next(
 }
 
 // the density of a spot's evaluation
+#[tactic(auto, unfolding(crate::specs::StableStep::stable_at))]
 pub fn stable_at(maxdensity: f64, t: f64, p: f64, spot: StableSpot) -> f64
     ensures { result ≡ stable_at maxdensity t p spot }
 {
@@ -135,20 +138,17 @@ pub fn stable_at(maxdensity: f64, t: f64, p: f64, spot: StableSpot) -> f64
             let c = solver_density::conditions(maxdensity, t, p, DensityInitialization::Liquid);
             density_at(c, at)
         }
-        StableSpot::VaporSearch { liquid: _, at } => {
+        StableSpot::VaporSearch { at, .. } => {
             let c = solver_density::conditions(maxdensity, t, p, DensityInitialization::Vapor);
             density_at(c, at)
         }
-        StableSpot::LiquidPotential { liquid, vapor: _ } => liquid,
-        StableSpot::VaporPotential {
-            liquid: _,
-            vapor,
-            potential: _,
-        } => vapor,
+        StableSpot::LiquidPotential { liquid, .. } => liquid,
+        StableSpot::VaporPotential { vapor, .. } => vapor,
     }
 }
 
 // where a search begins
+#[tactic(auto, unfolding(crate::specs::StableStep::stable_begin))]
 pub fn stable_begin(maxdensity: f64, t: f64, p: f64) -> Standing<StableSpot>
     ensures { result ≡ stable_begin maxdensity t p }
 {

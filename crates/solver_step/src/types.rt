@@ -1,14 +1,10 @@
 // The places of a search that ask for an evaluation, each with the numbers that it goes on from.
-use solver::Refusal;
+use solver::{Refusal, Spot};
 use solver_density::{Both, Nearest};
 use std::ops::ControlFlow;
 
 // In a spinodal search, of kind 3 or 4 or inside a density search: the rounds left after this one, and the density.
-#[derive(Clone, Copy)]
-pub struct SpinodalSpot {
-    pub rounds: u64,
-    pub rho: f64,
-}
+pub type SpinodalSpot = Spot<f64>;
 
 // How a density search ended: the density found, or why it failed.
 pub type Phase = Result<f64, Refusal>;
@@ -17,7 +13,7 @@ pub type Phase = Result<f64, Refusal>;
 pub type Standing<S> = ControlFlow<Phase, S>;
 
 // In a density search, of kind 1 or inside kind 2. `left` is the rounds left after this one.
-#[derive(Clone, Copy)]
+#[derive(Clone, Copy, PartialEq)]
 pub enum DensitySpot {
     First,
     Slope {
@@ -48,7 +44,7 @@ pub enum DensitySpot {
 }
 
 // In the search of kind 2: a phase's search, or one of the two potentials.
-#[derive(Clone, Copy)]
+#[derive(Clone, Copy, PartialEq)]
 pub enum StableSpot {
     LiquidSearch(DensitySpot),
     VaporSearch {

@@ -1,17 +1,17 @@
 -- `solver_density::density::by_both`.
-use native.Mathlib.Omega.{arith}
-use Rattle.solver.proofs.Runs.{part_most, then_found, then_refused}
+use Rattle.std.proofs.Common.{◌≡◌, arith, rules}
+use Rattle.solver.proofs.Runs.{ran, part_most, then_follows}
 use Rattle.solver_density.proofs.Spans.{branch_30, vapor_30}
-use Rattle.solver_density.specs.Density.{detour}
+use Rattle.solver_density.specs.Density.{detour, vapor}
 use Rattle.solver_density.proofs.density.by_both.Goals as goal
 
-pub overflow_add-result : goal.overflow_add-result
-overflow_add-result c = let l = part_most _ 30 _ c.branch_search-s.result (branch_30 _ _ _) c.branch_search-s.ensures in let m = part_most _ 30 _ c.by_vapor-v.result (vapor_30 _ _ _) c.by_vapor-v.ensures in omega arith
+pub and_then-requires-clause-fits : goal.and_then-requires-clause-fits
+and_then-requires-clause-fits c = λ v r p.
+    let e : r ≡ ran c.args.blend 0 (vapor c.args.c c.args.way v.second) = search rules in
+    let l = part_most _ 30 _ c.branch_search.result (branch_30 _ _ _) c.branch_search.ensures in
+    let m = part_most _ 30 (vapor c.args.c c.args.way v.second) r (vapor_30 _ _ _) e in
+    omega arith
 
-pub returns-in-Ok : goal.returns-in-Ok
+pub returns : goal.returns
 unfolding detour
-returns-in-Ok c = then_found _ _ _ c.branch_search-s.result _ c.by_vapor-v.result c.branch_search-s.ensures c.in-Ok.is c.by_vapor-v.ensures
-
-pub returns-in-Err : goal.returns-in-Err
-unfolding detour
-returns-in-Err c = then_refused _ _ _ c.branch_search-s.result _ c.branch_search-s.ensures c.in-Err.is
+returns c = then_follows _ _ (λ l. vapor c.args.c c.args.way l.second) _ c.branch_search.result _ c.branch_search.ensures c.and_then.ensures (λ v r p. search rules)

@@ -1,14 +1,13 @@
 -- `solver_density::stable::potentials`.
-use mathlib.Core.Path.{sym, ◌∙◌}
-use borrow.Author.Tests.{not-false, not-true}
+use Rattle.std.proofs.Common.{rules}
 use Rattle.solver_density.proofs.Runs.{liquid_infinite, potentials_found, vapor_infinite}
 use Rattle.solver_density.proofs.stable.potentials.Goals as goal
 
 pub returns-then-not-is_finite : goal.returns-then-not-is_finite
-returns-then-not-is_finite c = liquid_infinite _ _ _ _ _ c.chemical_potential-of_liquid.ensures (sym c.is_finite.ensures ∙ not-true c.is_finite.result c.if-not-is_finite.true-raw)
+returns-then-not-is_finite c = liquid_infinite _ _ _ _ _ c.chemical_potential-of_liquid.ensures (search rules)
 
 pub returns-then-not-is_finite-2 : goal.returns-then-not-is_finite-2
-returns-then-not-is_finite-2 c = vapor_infinite _ _ _ _ _ c.chemical_potential-of_liquid.ensures (sym c.is_finite.ensures ∙ not-false c.is_finite.result c.if-not-is_finite.false-raw) _ c.chemical_potential-of_vapor.ensures (sym c.is_finite-2.ensures ∙ not-true c.is_finite-2.result c.if-not-is_finite-2.true-raw)
+returns-then-not-is_finite-2 c = vapor_infinite _ _ _ _ _ c.chemical_potential-of_liquid.ensures (search rules) _ c.chemical_potential-of_vapor.ensures (search rules)
 
 pub returns : goal.returns
-returns c = potentials_found _ _ _ _ _ c.chemical_potential-of_liquid.ensures (sym c.is_finite.ensures ∙ not-false c.is_finite.result c.if-not-is_finite.false-raw) _ c.chemical_potential-of_vapor.ensures _ (sym c.is_finite-2.ensures ∙ not-false c.is_finite-2.result c.if-not-is_finite-2.false-raw) c.lower_potential.ensures
+returns c = potentials_found _ _ _ _ _ c.chemical_potential-of_liquid.ensures (search rules) _ c.chemical_potential-of_vapor.ensures _ (search rules) c.lower_potential.ensures

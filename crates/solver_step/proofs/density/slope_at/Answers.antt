@@ -1,11 +1,12 @@
 -- `solver_step::density::slope_at`.
-use Rattle.solver_step.proofs.Rounds.{slope_more}
+use Rattle.std.proofs.Common.{◌≡◌, suc, arith}
 use Rattle.solver_step.specs.DensityStep.{slope_at}
 use Rattle.solver_step.proofs.density.slope_at.Goals as goal
 
-pub returns-then-left-eq0 : goal.returns-then-left-eq0
+pub returns-in-Some : goal.returns-in-Some
 unfolding slope_at
-returns-then-left-eq0 c = rw c.if-left-eq0.true
+returns-in-Some c = let e : c.args.left ≡ suc c.in-Some.left = omega arith in rw e
 
-pub returns : goal.returns
-returns c = slope_more _ _ c.if-left-eq0.false
+pub returns-in-None : goal.returns-in-None
+unfolding slope_at
+returns-in-None c = let e : c.args.left ≡ 0 = omega arith in rw e

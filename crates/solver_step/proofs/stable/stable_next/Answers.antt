@@ -10,11 +10,3 @@ returns-in-LiquidSearch c = rw (c.in-LiquidSearch.is, ← c.conditions-c.ensures
 pub returns-in-VaporSearch : goal.returns-in-VaporSearch
 unfolding stable_next evaluated
 returns-in-VaporSearch c = rw (c.in-VaporSearch.is, ← c.conditions-c-in-VaporSearch.ensures, ← c.density_next-in-VaporSearch.ensures, ← c.vapor_search_on.ensures)
-
-pub returns-in-LiquidPotential : goal.returns-in-LiquidPotential
-unfolding stable_next evaluated
-returns-in-LiquidPotential c = rw (c.in-LiquidPotential.is, ← c.chemical_potential.ensures, ← c.liquid_potential_on.ensures)
-
-pub returns-in-VaporPotential : goal.returns-in-VaporPotential
-unfolding stable_next evaluated
-returns-in-VaporPotential c = rw (c.in-VaporPotential.is, ← c.chemical_potential-in-VaporPotential.ensures, ← c.vapor_potential_on.ensures)
