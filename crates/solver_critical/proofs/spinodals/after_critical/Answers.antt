@@ -15,4 +15,4 @@ and_then-requires-clause-fits c v r h =
 
 pub returns : goal.returns
 unfolding after_critical
-returns c = then_follows _ _ _ _ c.calculate_spinodal.result _ c.calculate_spinodal.ensures (λ v r h. search rules) c.and_then.ensures
+returns c = then_follows _ _ _ _ c.calculate_spinodal.result _ c.calculate_spinodal.ensures c.and_then.ensures (λ v r h. search rules)

@@ -6,4 +6,4 @@ use Rattle.solver_critical.proofs.spinodals.after_vapor.Goals as goal
 
 pub returns : goal.returns
 unfolding after_vapor after_liquid
-returns c = rw (← c.liquid_start-rho.ensures) (then_answer _ _ (λ l. both_answer _ l.first) c.calculate_spinodal-liquid.result _ c.calculate_spinodal-liquid.ensures (search rules))
+returns c = rw (← c.liquid_start-rho.ensures) (then_answer _ _ (λ l. both_answer _ l.first) _ c.calculate_spinodal-liquid.result _ c.calculate_spinodal-liquid.ensures c.and_then.ensures (λ v p. search rules))

@@ -15,4 +15,4 @@ and_then-requires-clause-fits c v r h =
 
 pub returns : goal.returns
 unfolding spinodal
-returns c = then_follows _ _ _ _ c.critical_search.result _ c.critical_search.ensures (λ v r h. search rules) c.and_then.ensures
+returns c = then_follows _ _ _ _ c.critical_search.result _ c.critical_search.ensures c.and_then.ensures (λ v r h. search rules)
