@@ -4,24 +4,21 @@ ghost use Rattle.float.specs.Sign.{finite_of};
 ghost use Rattle.eos.specs.Cubic.{nth, max_density};
 ghost use Rattle.solver.specs.Search.{run};
 ghost use Rattle.solver.specs.Evaluated.{evaluated};
-ghost use Rattle.solver_binary.specs.CriticalPointBinary.{start_temperature, start_unknowns, answer_p, scaled_p, limited, reduced_p, step_p, solved_p as solved_p_of, converged_p, search_p, critical_point_binary_p};
-ghost use Rattle.solver_binary.specs.Rounds.{finite3, row_finite, finite12, stepped_p, round_p};
+ghost use Rattle.solver_binary.specs.CriticalPointBinary.{start_temperature, start_unknowns, answer_p, reduced_p, step_p, row_of, residuals, solved_p as solved_p_of, converged_p, search_p, critical_point_binary_p};
+ghost use Rattle.solver_binary.specs.Rounds.{row_finite, finite12, stepped_p, round_p};
 
 use crate::temperature::start_densities;
 use crate::types::Unknowns;
 use eos::Blend;
 use evaluations::{Condition, PressureCriticality};
-use linear::Solved3;
+use linear::ZeroPivot;
 use solver::{Answer, Progress, Ran, Refusal, Values};
 use std::ops::ControlFlow;
 
 fn start_temperature(temperature: Option<f64>) -> f64
     ensures { result ≡ start_temperature temperature }
 {
-    match temperature {
-        None => 300.0,
-        Some(t) => t,
-    }
+    temperature.unwrap_or(300.0)
 }
 
 // where a search starts, z0 and z1 being the fractions
@@ -54,106 +51,78 @@ fn answer_p(p: Unknowns) -> Answer
     Ok(found)
 }
 
-// a step whose entry of this size is above `most`, scaled down as a whole
-fn limit_p(most: f64, size: f64, delta: Unknowns) -> Unknowns
-    ensures { result ≡ limited scaled_p most size delta }
-{
-    if size > most {
-        let factor = most / size;
-        return Unknowns {
-            t: delta.t * factor,
-            rho0: delta.rho0 * factor,
-            rho1: delta.rho1 * factor,
-        };
-    }
-    delta
-}
-
 // reduce step if necessary
-fn reduce_p(maxdensity: f64, t: f64, delta: Unknowns) -> Unknowns
+fn reduce_p(maxdensity: f64, t: f64, delta: [f64; 3]) -> [f64; 3]
     ensures { result ≡ reduced_p maxdensity t delta }
 {
     let most = 0.03 * maxdensity;
-    let first = limit_p(0.25 * t, float::abs(delta.t), delta);
-    let second = limit_p(most, float::abs(first.rho0), first);
-    limit_p(most, float::abs(second.rho1), second)
+    let mut step = delta;
+    solver_critical::limit(0.25 * t, float::abs(step[0]), &mut step);
+    solver_critical::limit(most, float::abs(step[1]), &mut step);
+    solver_critical::limit(most, float::abs(step[2]), &mut step);
+    step
 }
 
 // the Newton step from p, with its limits and floors
-fn step_p(maxdensity: f64, p: Unknowns, delta: Unknowns) -> Unknowns
+fn step_p(maxdensity: f64, p: Unknowns, delta: [f64; 3]) -> Unknowns
     ensures { result ≡ step_p maxdensity p delta }
 {
-    let step = reduce_p(maxdensity, p.t, delta);
+    let [t, rho0, rho1] = reduce_p(maxdensity, p.t, delta);
     Unknowns {
-        t: p.t - step.t,
-        rho0: solver_critical::floor(maxdensity, p.rho0 - step.rho0),
-        rho1: solver_critical::floor(maxdensity, p.rho1 - step.rho1),
+        t: p.t - t,
+        rho0: solver_critical::floor(maxdensity, p.rho0 - rho0),
+        rho1: solver_critical::floor(maxdensity, p.rho1 - rho1),
     }
 }
 
-fn three_finite(x: f64, y: f64, z: f64) -> bool
-    ensures { result ≡ finite3 x y z }
+// a condition's derivatives by temperature and partial densities
+fn row(c: Condition) -> [f64; 3]
+    ensures { result ≡ row_of c }
 {
-    if !float::is_finite(x) {
-        return false;
-    }
-    solver_critical::both_finite(y, z)
+    [c.d0, c.d1, c.d2]
+}
+
+fn residuals(y: PressureCriticality) -> [f64; 3]
+    ensures { result ≡ residuals y }
+{
+    [y.l.value, y.c2.value, y.p.value]
 }
 
 // the derivatives of a condition are finite
-fn row_finite(y: Condition) -> bool
-    ensures { result ≡ row_finite y }
+fn row_finite(c: Condition) -> bool
+    ensures { result ≡ row_finite c }
 {
-    three_finite(y.d0, y.d1, y.d2)
+    solver_critical::all_finite(&row(c))
 }
 
 // what criticality_conditions_p yields is finite
+#[tactic(auto, unfolding(crate::specs::Rounds::finite12))]
 fn all_finite(y: PressureCriticality) -> bool
     ensures { result ≡ finite12 y }
 {
-    let l = y.l;
-    let c2 = y.c2;
-    let p = y.p;
-    if !three_finite(l.value, c2.value, p.value) {
-        return false;
-    }
-    if !row_finite(l) {
-        return false;
-    }
-    if !row_finite(c2) {
-        return false;
-    }
-    row_finite(p)
+    solver_critical::all_finite(&residuals(y))
+        && row_finite(y.l)
+        && row_finite(y.c2)
+        && row_finite(y.p)
 }
 
 fn has_converged(y: PressureCriticality) -> bool
     ensures { result ≡ converged_p y }
 {
-    let l = y.l;
-    let c2 = y.c2;
-    let p = y.p;
-    linear::norm3(l.value, c2.value, p.value) < 1e-8
+    linear::norm(&residuals(y)) < 1e-8
 }
 
-fn solved_p(y: PressureCriticality) -> Solved3
+fn solved_p(y: PressureCriticality) -> Result<[f64; 3], ZeroPivot>
     ensures { result ≡ solved_p_of y }
 {
-    let l = y.l;
-    let c2 = y.c2;
-    let p = y.p;
-    let jacobian = [
-        [l.d0, l.d1, l.d2],
-        [c2.d0, c2.d1, c2.d2],
-        [p.d0, p.d1, p.d2],
-    ];
-    linear::solve3(jacobian, [l.value, c2.value, p.value])
+    linear::solve3([row(y.l), row(y.c2), row(y.p)], residuals(y))
 }
 
 // where a step that leads to p goes on
 fn stepped_p(ended: bool, p: Unknowns) -> Progress<Unknowns>
     ensures { result ≡ stepped_p ended p }
 {
-    if !three_finite(p.t, p.rho0, p.rho1) {
+    if !solver_critical::all_finite(&[p.t, p.rho0, p.rho1]) {
         return ControlFlow::Break(Err(Refusal::NotFinite));
     }
     if ended {
@@ -169,46 +138,20 @@ pub fn round_p(maxdensity: f64, p: Unknowns, y: PressureCriticality) -> Progress
     if !all_finite(y) {
         return ControlFlow::Break(Err(Refusal::NotFinite));
     }
-    let delta = solved_p(y);
-    match delta {
-        Solved3::Delta(t, rho0, rho1) => {
-            stepped_p(
-                has_converged(y),
-                step_p(maxdensity, p, Unknowns { t, rho0, rho1 }),
-            )
-        }
-        Solved3::ZeroPivot => ControlFlow::Break(Err(Refusal::IterationFailed)),
-    }
+    let Ok(delta) = solved_p(y) else {
+        return ControlFlow::Break(Err(Refusal::IterationFailed));
+    };
+    stepped_p(has_converged(y), step_p(maxdensity, p, delta))
 }
 
 // the rounds from a start
 fn search_p(blend: Blend, maxdensity: f64, pressure: f64, start: Unknowns) -> Ran
     ensures { result ≡ run finite_of (evaluated blend) 0 (search_p maxdensity pressure 200 start) }
 {
-    let mut p = start;
-    let mut left: u64 = 200;
-    let mut evaluations: u64 = 0;
-    while 0 < left {
-        left -= 1;
-        evaluations += 1;
+    solver::rounds(200, Refusal::NotConverged, start, |p| {
         let y = evaluations::criticality_conditions_p(blend, pressure, p.t, p.rho0, p.rho1);
-        let outcome = round_p(maxdensity, p, y);
-        match outcome {
-            ControlFlow::Break(answer) => {
-                return Ran {
-                    answer,
-                    evaluations,
-                };
-            }
-            ControlFlow::Continue(next) => {
-                p = next;
-            }
-        }
-    }
-    Ran {
-        answer: Err(Refusal::NotConverged),
-        evaluations,
-    }
+        round_p(maxdensity, p, y)
+    })
 }
 
 // Kind 9. Hands out the temperature and two partial densities.

@@ -4,13 +4,12 @@ ghost use Rattle.float.specs.Sign.{finite_of};
 ghost use Rattle.eos.specs.Cubic.{nth, max_density};
 ghost use Rattle.solver.specs.Search.{run};
 ghost use Rattle.solver.specs.Evaluated.{evaluated};
-ghost use Rattle.solver_binary.specs.CriticalPointBinary.{start_densities, answer_t, scaled_t, limited, reduced_t, step_t, search_t, critical_point_binary_t};
+ghost use Rattle.solver_binary.specs.CriticalPointBinary.{start_densities, answer_t, reduced_t, step_t, search_t, critical_point_binary_t};
 ghost use Rattle.solver_binary.specs.Rounds.{stepped_t, round_t};
 
 use crate::types::Densities;
 use eos::Blend;
 use evaluations::Criticality;
-use linear::Solved;
 use solver::{Answer, Progress, Ran, Refusal, Values};
 use std::ops::ControlFlow;
 
@@ -37,37 +36,25 @@ fn answer_t(p: Densities) -> Answer
     Ok(found)
 }
 
-// a step whose entry of this size is above `most`, scaled down as a whole
-fn limit_t(most: f64, size: f64, delta: Densities) -> Densities
-    ensures { result ≡ limited scaled_t most size delta }
-{
-    if size > most {
-        let factor = most / size;
-        return Densities {
-            rho0: delta.rho0 * factor,
-            rho1: delta.rho1 * factor,
-        };
-    }
-    delta
-}
-
 // reduce step if necessary
-fn reduce_t(maxdensity: f64, delta: Densities) -> Densities
+fn reduce_t(maxdensity: f64, delta: [f64; 2]) -> [f64; 2]
     ensures { result ≡ reduced_t maxdensity delta }
 {
     let most = 0.03 * maxdensity;
-    let first = limit_t(most, float::abs(delta.rho0), delta);
-    limit_t(most, float::abs(first.rho1), first)
+    let mut step = delta;
+    solver_critical::limit(most, float::abs(step[0]), &mut step);
+    solver_critical::limit(most, float::abs(step[1]), &mut step);
+    step
 }
 
 // the Newton step from p, with its limits and floors
-fn step_t(maxdensity: f64, p: Densities, delta: Densities) -> Densities
+fn step_t(maxdensity: f64, p: Densities, delta: [f64; 2]) -> Densities
     ensures { result ≡ step_t maxdensity p delta }
 {
-    let step = reduce_t(maxdensity, delta);
+    let [rho0, rho1] = reduce_t(maxdensity, delta);
     Densities {
-        rho0: solver_critical::floor(maxdensity, p.rho0 - step.rho0),
-        rho1: solver_critical::floor(maxdensity, p.rho1 - step.rho1),
+        rho0: solver_critical::floor(maxdensity, p.rho0 - rho0),
+        rho1: solver_critical::floor(maxdensity, p.rho1 - rho1),
     }
 }
 
@@ -75,7 +62,7 @@ fn step_t(maxdensity: f64, p: Densities, delta: Densities) -> Densities
 fn stepped_t(ended: bool, p: Densities) -> Progress<Densities>
     ensures { result ≡ stepped_t ended p }
 {
-    if !solver_critical::both_finite(p.rho0, p.rho1) {
+    if !solver_critical::all_finite(&[p.rho0, p.rho1]) {
         return ControlFlow::Break(Err(Refusal::NotFinite));
     }
     if ended {
@@ -88,49 +75,26 @@ fn stepped_t(ended: bool, p: Densities) -> Progress<Densities>
 pub fn round_t(maxdensity: f64, p: Densities, y: Criticality) -> Progress<Densities>
     ensures { result ≡ round_t maxdensity p y }
 {
-    if !solver_critical::all_finite(y) {
+    if !solver_critical::all_finite(&solver_critical::entries(y)) {
         return ControlFlow::Break(Err(Refusal::NotFinite));
     }
-    let delta = solver_critical::solved(y);
-    match delta {
-        Solved::Delta(rho0, rho1) => {
-            stepped_t(
-                solver_critical::has_converged(y),
-                step_t(maxdensity, p, Densities { rho0, rho1 }),
-            )
-        }
-        Solved::ZeroPivot => ControlFlow::Break(Err(Refusal::IterationFailed)),
-    }
+    let Ok(delta) = solver_critical::solved(y) else {
+        return ControlFlow::Break(Err(Refusal::IterationFailed));
+    };
+    stepped_t(
+        solver_critical::has_converged(y),
+        step_t(maxdensity, p, delta),
+    )
 }
 
 // the rounds from a start
 fn search_t(blend: Blend, maxdensity: f64, t: f64, start: Densities) -> Ran
     ensures { result ≡ run finite_of (evaluated blend) 0 (search_t maxdensity t 200 start) }
 {
-    let mut p = start;
-    let mut left: u64 = 200;
-    let mut evaluations: u64 = 0;
-    while 0 < left {
-        left -= 1;
-        evaluations += 1;
+    solver::rounds(200, Refusal::NotConverged, start, |p| {
         let y = evaluations::criticality_conditions_t(blend, t, p.rho0, p.rho1);
-        let outcome = round_t(maxdensity, p, y);
-        match outcome {
-            ControlFlow::Break(answer) => {
-                return Ran {
-                    answer,
-                    evaluations,
-                };
-            }
-            ControlFlow::Continue(next) => {
-                p = next;
-            }
-        }
-    }
-    Ran {
-        answer: Err(Refusal::NotConverged),
-        evaluations,
-    }
+        round_t(maxdensity, p, y)
+    })
 }
 
 // Kind 8. Hands out two partial densities.

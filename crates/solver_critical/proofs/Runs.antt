@@ -1,5 +1,5 @@
 -- What a round of a run leaves to run. Assumes nothing.
-use mathlib.Core.Path.{◌≡◌, sym, ◌∙◌}
+use mathlib.Core.Path.{◌≡◌, refl, sym, ◌∙◌}
 use Prim.Native.Nat.{ℕ, zero, suc, ◌+◌, ◌-◌, ◌≤◌, ◌<◌}
 use native.Mathlib.Omega.{arith}
 use native.Mathlib.Numerals.{add-one}
@@ -18,31 +18,23 @@ use Rattle.solver.specs.declared.types.Refusal.TheVariants.{NotConverged, Superc
 use Rattle.solver.specs.Answer.{Answer}
 use Rattle.std.specs.Prelude.{Ok, Err}
 use Rattle.solver.specs.declared.types.Ran.{Ran}
-use Rattle.solver.specs.Search.{Search, bind, run}
+use Rattle.solver.specs.Search.{Search, refuse, run}
 use Rattle.solver.specs.Evaluated.{evaluated}
 use Rattle.solver.proofs.Runs.{ran, same_run, part_bind}
+use Rattle.solver.proofs.Turns.{led}
 use Rattle.solver_critical.specs.declared.types.Point.{Point}
 use Rattle.solver.specs.Answer.{Progress}
 use Rattle.std.specs.declared.ops.ControlFlow.TheVariants.{Break, Continue}
 use Rattle.solver_critical.specs.CriticalPoint.{or_else, trial_temperatures, trial_temperature, hkm_from, critical_point_hkm, trials}
 use Rattle.solver_critical.specs.Spinodal.{spinodal_from}
 use Rattle.solver_critical.specs.Rounds.{critical_round, stability_round}
-use Rattle.solver_critical.proofs.Settles.{led, round_led, stability_led_lem}
+use Rattle.solver_critical.proofs.Settles.{round_led, stability_led_lem}
 
 -- ---- the trial temperatures
 
 -- which default is given does not matter within a list
 pub get_d_any : (l : List Float) (i : ℕ) (d e : Float) → i < length l → get_or l i d ≡ get_or l i e
 get_d_any l i d e h = let p = drop-cons l i d h in let q = drop-cons l i e h in cc
-
--- ---- what a round of a loop leaves
-pub led_stops : {P : Type 0} (b : Blend) (n : ℕ) (o : Progress P) (a : Answer) (again : P → Search) (w : Ran) → o ≡ Break a → ran b n (led o again) ≡ w → record { answer = a; evaluations = n } ≡ w
-unfolding led run
-led_stops b n o a again w h e = rw h at e
-
-pub led_goes : {P : Type 0} (b : Blend) (n : ℕ) (o : Progress P) (p : P) (again : P → Search) (w : Ran) → o ≡ Continue p → ran b n (led o again) ≡ w → ran b n (again p) ≡ w
-unfolding led
-led_goes b n o p again w h e = rw h at e
 
 -- ---- what a trial's answer leaves
 pub trial_found : (b : Blend) (n : ℕ) (a : Answer) (v : Values) (s : Search) (w : Ran) → a ≡ Ok v → ran b n (or_else s a) ≡ w → record { answer = Ok v; evaluations = n } ≡ w
@@ -55,15 +47,13 @@ trial_fails b n a r s w ea e = rw ea at e
 
 -- ---- the loop of a critical point search
 module _ (b : Blend) (maxdensity : Float) where
-  pub hkm_turn : (p : Point) (left next n : ℕ) (y : Criticality) (o : Progress Point) (w : Ran) → left ≡ suc next → y ≡ criticality_conditions b p.t p.rho → o ≡ critical_round maxdensity p y
-      → ran b n (hkm_from maxdensity left p) ≡ w → ran b (n + 1) (led o (hkm_from maxdensity next)) ≡ w
+  pub hkm_turn : (m n : ℕ) (p : Point) (o : Progress Point) → o ≡ critical_round maxdensity p (criticality_conditions b p.t p.rho) → ran b m (hkm_from maxdensity (suc n) p) ≡ ran b (m + 1) (led o (hkm_from maxdensity n))
   unfolding run hkm_from evaluated
-  hkm_turn p left next n y o w h ey eo e =
-      rw (eo, ey) (same_run b (n + 1) _ _ (sym (round_led maxdensity (hkm_from maxdensity next) p (criticality_conditions b p.t p.rho))) ∙ rw h at e)
+  hkm_turn m n p o eo = rw eo (same_run b (m + 1) _ _ (round_led maxdensity (hkm_from maxdensity n) p (criticality_conditions b p.t p.rho)))
 
-  pub hkm_over : (p : Point) (left n m : ℕ) (w : Ran) → left ≡ 0 → n ≡ m → ran b n (hkm_from maxdensity left p) ≡ w → record { answer = Err NotConverged; evaluations = m } ≡ w
-  unfolding run hkm_from
-  hkm_over p left n m w h k e = rw (h, k) at e
+  pub hkm_ends : (p : Point) → hkm_from maxdensity zero p ≡ refuse NotConverged
+  unfolding hkm_from
+  hkm_ends p = refl
 
   -- ---- the loop of the trials
 
@@ -79,12 +69,10 @@ module _ (b : Blend) (maxdensity : Float) where
 
 -- ---- the loop of a spinodal search
 module _ (b : Blend) (maxdensity t : Float) where
-  pub stability_turn : (ρ : Float) (left next n : ℕ) (y : Stability) (o : Progress Float) (w : Ran) → left ≡ suc next → y ≡ stability_condition b t ρ → o ≡ stability_round maxdensity ρ y
-      → ran b n (spinodal_from maxdensity t left ρ) ≡ w → ran b (n + 1) (led o (spinodal_from maxdensity t next)) ≡ w
+  pub stability_turn : (m n : ℕ) (ρ : Float) (o : Progress Float) → o ≡ stability_round maxdensity ρ (stability_condition b t ρ) → ran b m (spinodal_from maxdensity t (suc n) ρ) ≡ ran b (m + 1) (led o (spinodal_from maxdensity t n))
   unfolding run spinodal_from evaluated
-  stability_turn ρ left next n y o w h ey eo e =
-      rw (eo, ey) (same_run b (n + 1) _ _ (sym (stability_led_lem maxdensity ρ (stability_condition b t ρ) (spinodal_from maxdensity t next))) ∙ rw h at e)
+  stability_turn m n ρ o eo = rw eo (same_run b (m + 1) _ _ (stability_led_lem maxdensity ρ (stability_condition b t ρ) (spinodal_from maxdensity t n)))
 
-  pub stability_over : (ρ : Float) (left n m : ℕ) (w : Ran) → left ≡ 0 → n ≡ m → ran b n (spinodal_from maxdensity t left ρ) ≡ w → record { answer = Err Supercritical; evaluations = m } ≡ w
-  unfolding run spinodal_from
-  stability_over ρ left n m w h k e = rw (h, k) at e
+  pub stability_ends : (ρ : Float) → spinodal_from maxdensity t zero ρ ≡ refuse Supercritical
+  unfolding spinodal_from
+  stability_ends ρ = refl

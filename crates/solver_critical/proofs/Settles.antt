@@ -11,8 +11,9 @@ use Rattle.solver.specs.Decimals.{d1e_8}
 use Rattle.solver.specs.declared.types.Refusal.TheVariants.{NotFinite}
 use Rattle.solver.specs.Answer.{Answer}
 use Rattle.std.specs.Prelude.{Ok, Err}
-use Rattle.solver.specs.Search.{Search, done, refuse, tested, bind, settle}
-use Rattle.solver.proofs.Steps.{settle_tested, settled, cond_both, settled_bind}
+use Rattle.solver.specs.Search.{Search, done, refuse, tested, settle}
+use Rattle.solver.proofs.Steps.{settle_tested, settled, cond_both}
+use Rattle.solver.proofs.Turns.{led}
 use Rattle.solver_critical.specs.declared.types.Point.{Point}
 use Rattle.solver.specs.Answer.{Progress}
 use Rattle.std.specs.declared.ops.ControlFlow.TheVariants.{Break, Continue}
@@ -24,11 +25,6 @@ use Rattle.solver_critical.specs.Rounds.{all_finite, stepped_round, solved_round
 pub tests : (xs : List Float) (s : Search) → settled (tested_each xs s) ≡ cond (all_finite xs) (settled s) (refuse NotFinite)
 tests [] s = refl
 tests (x ∷ xs) s = settle_tested finite_of x (tested_each xs s) ∙ rw (tests xs s) (cond_both (finite_of x) (all_finite xs) (settled s) (refuse NotFinite))
-
--- what a round comes to, and what goes on from there
-unfoldable pub led : {P : Type 0} → Progress P → (P → Search) → Search
-led (Break a) again = done a
-led (Continue p) again = again p
 
 -- ---- a round of a critical point search
 module _ (maxdensity : Float) (again : Point → Search) where
@@ -62,9 +58,6 @@ module _ (maxdensity : Float) (again : Point → Search) where
       tests (entries y) (after_solve maxdensity p y (solved y) again)
       ∙ ap (λ (s : Search). cond (all_finite (entries y)) s (refuse NotFinite)) (solved_led p y (solved y))
       ∙ cond_led (all_finite (entries y)) (solved_round maxdensity p y (solved y))
-
-  pub round_bind : (f : Answer → Search) (p : Point) (y : Criticality) → settled (bind (after_conditions maxdensity p y again) f) ≡ settled (bind (led (critical_round maxdensity p y) again) f)
-  round_bind f p y = settled_bind (after_conditions maxdensity p y again) (led (critical_round maxdensity p y) again) f (round_led p y)
 
 -- ---- a round of a spinodal search
 module _ (maxdensity ρ : Float) (y : Stability) (again : Float → Search) where

@@ -35,27 +35,26 @@ pub fn floor(maxdensity: f64, rho: f64) -> f64
     float::max(rho, 1e-4 * maxdensity)
 }
 
-// a step whose entry of this size is above `most`, scaled down as a whole
-pub fn limit<const N: usize>(most: f64, size: f64, delta: [f64; N]) -> [f64; N]
-    ensures { result ≡ limited most size delta.entry }
+// a step with an entry of this size above `most` is scaled down as a whole
+pub fn limit(most: f64, size: f64, delta: &mut [f64])
+    ensures { delta.new ≡ limited most size delta.old }
 {
     if size > most {
         let factor = most / size;
-        let mut scaled = delta;
-        for x in scaled.iter_mut() {
+        for x in delta.iter_mut() {
             *x *= factor;
         }
-        return scaled;
     }
-    delta
 }
 
 // reduce step if necessary
 fn reduce_step(maxdensity: f64, t: f64, delta: [f64; 2]) -> [f64; 2]
     ensures { result ≡ reduced_step maxdensity t delta }
 {
-    let first = limit(0.25 * t, float::abs(delta[0]), delta);
-    limit(0.03 * maxdensity, float::abs(first[1]), first)
+    let mut step = delta;
+    limit(0.25 * t, float::abs(step[0]), &mut step);
+    limit(0.03 * maxdensity, float::abs(step[1]), &mut step);
+    step
 }
 
 // the Newton step from p, with its caps and the density's floor
@@ -140,23 +139,10 @@ pub fn trial_temperature(trial: u64) -> f64
 fn critical_point_hkm(blend: Blend, maxdensity: f64, t: f64, rho: f64) -> Ran
     ensures { result ≡ run finite_of (evaluated blend) 0 (critical_point_hkm maxdensity t rho) }
 {
-    let mut p = Point { t, rho };
-    for made in 0..50u64 {
+    solver::rounds(50, Refusal::NotConverged, Point { t, rho }, |p| {
         let y = evaluations::criticality_conditions(blend, p.t, p.rho);
-        match critical_round(maxdensity, p, y) {
-            ControlFlow::Break(answer) => {
-                return Ran {
-                    answer,
-                    evaluations: made + 1,
-                };
-            }
-            ControlFlow::Continue(next) => p = next,
-        }
-    }
-    Ran {
-        answer: Err(Refusal::NotConverged),
-        evaluations: 50,
-    }
+        critical_round(maxdensity, p, y)
+    })
 }
 
 // the trials, each from the density rho: the first that converges ends them

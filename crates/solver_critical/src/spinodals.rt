@@ -98,23 +98,11 @@ fn calculate_spinodal(
 ) -> Ran
     ensures { result ≡ run finite_of (evaluated blend) 0 (calculate_spinodal maxdensity temperature initial) }
 {
-    let mut rho = spinodal_start(maxdensity, initial);
-    for made in 0..50u64 {
+    let start = spinodal_start(maxdensity, initial);
+    solver::rounds(50, Refusal::Supercritical, start, |rho| {
         let y = evaluations::stability_condition(blend, temperature, rho);
-        match stability_round(maxdensity, rho, y) {
-            ControlFlow::Break(answer) => {
-                return Ran {
-                    answer,
-                    evaluations: made + 1,
-                };
-            }
-            ControlFlow::Continue(next) => rho = next,
-        }
-    }
-    Ran {
-        answer: Err(Refusal::Supercritical),
-        evaluations: 50,
-    }
+        stability_round(maxdensity, rho, y)
+    })
 }
 
 // the liquid's spinodal, after the vapour's
@@ -122,23 +110,17 @@ fn after_vapor(blend: Blend, maxdensity: f64, temperature: f64, critical: f64, v
     ensures { result ≡ run finite_of (evaluated blend) 0 (after_vapor maxdensity temperature critical vapor) }
 {
     let rho = liquid_start(critical, vapor.first);
-    let s = calculate_spinodal(
+    let liquid = calculate_spinodal(
         blend,
         maxdensity,
         temperature,
         DensityInitialization::InitialDensity(rho),
     );
-    let evaluations = s.evaluations;
-    let answer = s.answer;
-    match answer {
-        Ok(liquid) => Ran {
-            answer: both_answer(vapor.first, liquid.first),
-            evaluations,
-        },
-        Err(refusal) => Ran {
-            answer: Err(refusal),
-            evaluations,
-        },
+    Ran {
+        answer: liquid
+            .answer
+            .and_then(|found| both_answer(vapor.first, found.first)),
+        evaluations: liquid.evaluations,
     }
 }
 
@@ -146,45 +128,20 @@ fn after_vapor(blend: Blend, maxdensity: f64, temperature: f64, critical: f64, v
 fn after_critical(blend: Blend, maxdensity: f64, temperature: f64, critical: Values) -> Ran
     ensures { result ≡ run finite_of (evaluated blend) 0 (after_critical maxdensity temperature critical) }
 {
-    let s = calculate_spinodal(blend, maxdensity, temperature, DensityInitialization::Vapor);
-    let evaluations = s.evaluations;
-    let answer = s.answer;
-    match answer {
-        Ok(vapor) => {
-            let l = after_vapor(blend, maxdensity, temperature, critical.second, vapor);
-            let after = l.answer;
-            Ran {
-                answer: after,
-                evaluations: evaluations + l.evaluations,
-            }
-        }
-        Err(refusal) => Ran {
-            answer: Err(refusal),
-            evaluations,
-        },
-    }
+    calculate_spinodal(blend, maxdensity, temperature, DensityInitialization::Vapor).and_then(
+        |vapor| after_vapor(blend, maxdensity, temperature, critical.second, vapor),
+    )
 }
 
 fn spinodal_search(blend: Blend, maxdensity: f64, temperature: f64) -> Ran
     ensures { result ≡ run finite_of (evaluated blend) 0 (spinodal_tree maxdensity temperature) }
 {
-    let s = critical_search(blend, maxdensity, None, None);
-    let evaluations = s.evaluations;
-    let answer = s.answer;
-    match answer {
-        Ok(critical) => {
-            let both = after_critical(blend, maxdensity, temperature, critical);
-            let after = both.answer;
-            Ran {
-                answer: after,
-                evaluations: evaluations + both.evaluations,
-            }
-        }
-        Err(refusal) => Ran {
-            answer: Err(refusal),
-            evaluations,
-        },
-    }
+    critical_search(blend, maxdensity, None, None).and_then(|critical| after_critical(
+        blend,
+        maxdensity,
+        temperature,
+        critical,
+    ))
 }
 
 // Kind 6. Hands out the vapour's and the liquid's density.

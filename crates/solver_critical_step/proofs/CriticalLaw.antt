@@ -16,7 +16,8 @@ use Rattle.solver.specs.Answer.{Progress}
 use Rattle.solver_critical.specs.declared.types.Point.{Point}
 use Rattle.std.specs.declared.ops.ControlFlow.TheVariants.{Break, Continue}
 use Rattle.solver_critical.specs.CriticalPoint.{or_else, trial_temperatures, trial_temperature, start_density, hkm_from, critical_point_hkm, trials, from_temperature, critical_point}
-use Rattle.solver_critical.proofs.Settles.{led, round_led}
+use Rattle.solver.proofs.Turns.{led}
+use Rattle.solver_critical.proofs.Settles.{round_led}
 use Rattle.solver_critical_step.specs.declared.types.HkmSpot.{HkmSpot}
 use Rattle.solver_critical_step.specs.declared.types.CriticalSpot.{CriticalSpot}
 use Rattle.solver_critical_step.specs.declared.types.CriticalSpot.TheVariants.{Given, Trial}

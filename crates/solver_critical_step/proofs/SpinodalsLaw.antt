@@ -11,7 +11,8 @@ use Rattle.solver.specs.Answer.{Progress}
 use Rattle.std.specs.declared.ops.ControlFlow.TheVariants.{Break, Continue}
 use Rattle.solver_critical.specs.CriticalPoint.{start_density, critical_point}
 use Rattle.solver_critical.specs.Spinodal.{spinodal_start, spinodal_from, calculate_spinodal, after_liquid, after_vapor, after_critical, spinodal}
-use Rattle.solver_critical.proofs.Settles.{stability_led, stability_led_lem}
+use Rattle.solver.proofs.Turns.{led}
+use Rattle.solver_critical.proofs.Settles.{stability_led_lem}
 use Rattle.solver_critical_step.specs.declared.types.CriticalSpot.{CriticalSpot}
 use Rattle.solver_critical_step.specs.declared.types.StabilitySpot.{StabilitySpot}
 use Rattle.solver_critical_step.specs.declared.types.SpinodalsSpot.{SpinodalsSpot}
@@ -22,8 +23,8 @@ use Rattle.solver_critical_step.proofs.CriticalLaw.{critical_law, critical_asks,
 
 module _ (maxdensity t : Float) where
   -- ---- calculate_spinodal
-  stability_on_lem : (n : ℕ) (o : Progress Float) → stability_left maxdensity t (stability_on n o) ≡ settled (stability_led o (spinodal_from maxdensity t n))
-  unfolding stability_left resume_stability stability_on settle stability_led spinodal_from
+  stability_on_lem : (n : ℕ) (o : Progress Float) → stability_left maxdensity t (stability_on n o) ≡ settled (led o (spinodal_from maxdensity t n))
+  unfolding stability_left resume_stability stability_on settle led spinodal_from
   stability_on_lem n (Break a) = refl
   stability_on_lem zero (Continue ρ) = refl
   stability_on_lem (suc n) (Continue ρ) = refl

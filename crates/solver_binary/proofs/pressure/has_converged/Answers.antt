@@ -4,4 +4,4 @@ use Rattle.solver_binary.proofs.pressure.has_converged.Goals as goal
 
 pub returns : goal.returns
 unfolding converged_p
-returns c = rw (← c.norm3.ensures)
+returns c = rw (c.norm.ensures, c.residuals.ensures)

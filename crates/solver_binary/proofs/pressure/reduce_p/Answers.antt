@@ -4,4 +4,4 @@ use Rattle.solver_binary.proofs.pressure.reduce_p.Goals as goal
 
 pub returns : goal.returns
 unfolding reduced_p
-returns c = rw (← c.abs.ensures, ← c.limit_p-first.ensures, ← c.abs-2.ensures, ← c.limit_p-second.ensures, ← c.abs-3.ensures, ← c.limit_p.ensures)
+returns c = rw (← c.abs.ensures, ← c.limit.ensures, ← c.abs-2.ensures, ← c.limit-2.ensures, ← c.abs-3.ensures, ← c.limit-3.ensures)

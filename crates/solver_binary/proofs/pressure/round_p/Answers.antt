@@ -7,10 +7,10 @@ pub returns-then-not-all_finite : goal.returns-then-not-all_finite
 unfolding round_p solved_round_p
 returns-then-not-all_finite c = rw (← c.all_finite.ensures, not-true c.all_finite.result c.if-not-all_finite.true-raw)
 
-pub returns-in-Delta : goal.returns-in-Delta
+pub returns-in_default : goal.returns-in_default
 unfolding round_p solved_round_p
-returns-in-Delta c = rw (← c.all_finite.ensures, not-false c.all_finite.result c.if-not-all_finite.false-raw, ← c.solved_p-delta.ensures, c.in-Delta.is, ← c.has_converged.ensures, ← c.step_p.ensures, ← c.stepped_p.ensures)
+returns-in_default c = rw (← c.all_finite.ensures, not-false c.all_finite.result c.if-not-all_finite.false-raw, ← c.solved_p.ensures, c.in_default.is)
 
-pub returns-in-ZeroPivot : goal.returns-in-ZeroPivot
+pub returns : goal.returns
 unfolding round_p solved_round_p
-returns-in-ZeroPivot c = rw (← c.all_finite.ensures, not-false c.all_finite.result c.if-not-all_finite.false-raw, ← c.solved_p-delta.ensures, c.in-ZeroPivot.is)
+returns c = rw (← c.all_finite.ensures, not-false c.all_finite.result c.if-not-all_finite.false-raw, ← c.solved_p.ensures, c.in-Ok.is, ← c.has_converged.ensures, ← c.step_p.ensures, ← c.stepped_p.ensures)

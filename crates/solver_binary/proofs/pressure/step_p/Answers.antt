@@ -4,4 +4,4 @@ use Rattle.solver_binary.proofs.pressure.step_p.Goals as goal
 
 pub returns : goal.returns
 unfolding step_p
-returns c = rw (← c.reduce_p-step.ensures, ← c.floor.ensures, ← c.floor-2.ensures)
+returns c = rw (← c.reduce_p.ensures, ← c.floor.ensures, ← c.floor-2.ensures)

@@ -4,4 +4,4 @@ use Rattle.solver_binary.proofs.temperature.reduce_t.Goals as goal
 
 pub returns : goal.returns
 unfolding reduced_t
-returns c = rw (← c.abs.ensures, ← c.limit_t-first.ensures, ← c.abs-2.ensures, ← c.limit_t.ensures)
+returns c = rw (← c.abs.ensures, ← c.limit.ensures, ← c.abs-2.ensures, ← c.limit-2.ensures)

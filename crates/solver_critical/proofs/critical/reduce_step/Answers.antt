@@ -4,4 +4,4 @@ use Rattle.solver_critical.proofs.critical.reduce_step.Goals as goal
 
 pub returns : goal.returns
 unfolding reduced_step
-returns c = rw (← c.abs.ensures, ← c.limit-first.ensures, ← c.abs-2.ensures, ← c.limit.ensures)
+returns c = rw (← c.abs.ensures, ← c.limit.ensures, ← c.abs-2.ensures, ← c.limit-2.ensures)

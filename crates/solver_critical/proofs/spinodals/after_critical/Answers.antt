@@ -1,17 +1,18 @@
 -- `solver_critical::spinodals::after_critical`.
-use native.Mathlib.Omega.{arith}
-use Rattle.solver.proofs.Runs.{part_most, then_found, then_refused}
+use mathlib.Core.Path.{◌≡◌}
+use Rattle.std.proofs.Common.{rules, arith}
+use Rattle.solver.proofs.Runs.{part_most, ran, then_follows}
 use Rattle.solver_critical.proofs.Spans.{calculate_50, vapor_50}
-use Rattle.solver_critical.specs.Spinodal.{after_critical}
+use Rattle.solver_critical.specs.Spinodal.{after_critical, after_vapor}
 use Rattle.solver_critical.proofs.spinodals.after_critical.Goals as goal
 
-pub overflow_add-result : goal.overflow_add-result
-overflow_add-result c = let v = part_most _ 50 _ c.calculate_spinodal-s.result (calculate_50 _ _ _) c.calculate_spinodal-s.ensures in let l = part_most _ 50 _ c.after_vapor-l.result (vapor_50 _ _ _ _) c.after_vapor-l.ensures in omega arith
+pub and_then-requires-clause-fits : goal.and_then-requires-clause-fits
+and_then-requires-clause-fits c v r h =
+    let e : r ≡ ran c.args.blend 0 (after_vapor c.args.maxdensity c.args.temperature c.args.critical.second v) = search rules in
+    let s = part_most _ 50 _ c.calculate_spinodal.result (calculate_50 _ _ _) c.calculate_spinodal.ensures in
+    let m = part_most _ 50 _ r (vapor_50 _ _ _ v) e in
+    omega arith
 
-pub returns-in-Ok : goal.returns-in-Ok
+pub returns : goal.returns
 unfolding after_critical
-returns-in-Ok c = then_found _ _ _ c.calculate_spinodal-s.result _ c.after_vapor-l.result c.calculate_spinodal-s.ensures c.in-Ok.is c.after_vapor-l.ensures
-
-pub returns-in-Err : goal.returns-in-Err
-unfolding after_critical
-returns-in-Err c = then_refused _ _ _ c.calculate_spinodal-s.result _ c.calculate_spinodal-s.ensures c.in-Err.is
+returns c = then_follows _ _ _ _ c.calculate_spinodal.result _ c.calculate_spinodal.ensures c.and_then.ensures (λ v r h. search rules)
