@@ -1,53 +1,48 @@
 -- The answers of the calls in document 01's numbers, and an answer in parts as C takes it. Definitions only.
-use Rattle.std.specs.Prelude.{ℕ, Float}
+use Rattle.std.specs.Prelude.{ℕ, Bool, if◌then◌else◌, Float, Result, Ok, Err}
 use Rattle.board_spec.specs.Board.{Answer, Refused}
 use Rattle.board_spec.specs.Board as Says
-use Rattle.board.specs.declared.types.Submitted.{Submitted}
-use Rattle.board.specs.declared.types.Submitted.TheVariants as Submitted
-use Rattle.board.specs.declared.types.Turned.{Turned}
-use Rattle.board.specs.declared.types.Turned.TheVariants as Turned
-use Rattle.board.specs.declared.types.Looked.{Looked}
-use Rattle.board.specs.declared.types.Looked.TheVariants as Looked
-use Rattle.board.specs.declared.types.Quoted.{Quoted}
-use Rattle.board.specs.declared.types.Quoted.TheVariants as Quoted
-use Rattle.board.specs.declared.types.Told.{Told}
-use Rattle.board.specs.declared.types.Told.TheVariants as Told
+use Rattle.board.specs.declared.types.Refusal.{Refusal}
+use Rattle.board.specs.declared.types.Refusal.TheVariants.{BadQueue, BadKind, BadCount, Full, ShortRecord, BadBoard, NotRunning, BadBlockLength}
+use Rattle.board.specs.declared.types.Reply.{Reply}
+use Rattle.board.specs.declared.types.Reply.TheVariants as Reply
+use Rattle.board.specs.declared.types.Shown.{Shown}
 
-unfoldable pub submitted_of : Submitted → Answer
-submitted_of Submitted.BadBoard = Refused 6
-submitted_of Submitted.BadQueue = Refused 1
-submitted_of Submitted.BadKind = Refused 2
-submitted_of Submitted.BadCount = Refused 3
-submitted_of Submitted.BadBlockLength = Refused 8
-submitted_of Submitted.Full = Refused 4
-submitted_of (Submitted.Ticket ticket) = Says.Ticket ticket
+unfoldable pub refusal_number : Refusal → ℕ
+refusal_number BadQueue = 1
+refusal_number BadKind = 2
+refusal_number BadCount = 3
+refusal_number Full = 4
+refusal_number ShortRecord = 5
+refusal_number BadBoard = 6
+refusal_number NotRunning = 7
+refusal_number BadBlockLength = 8
+
+-- what each call answers, or why it refuses
+unfoldable pub submitted_of : Result ℕ Refusal → Answer
+submitted_of (Ok ticket) = Says.Ticket ticket
+submitted_of (Err refusal) = Refused (refusal_number refusal)
 
 -- "1 if a record was written, else 0"
-unfoldable pub turned_of : Turned → Answer
-turned_of Turned.BadBoard = Refused 6
-turned_of Turned.ShortRecord = Refused 5
-turned_of Turned.Nothing = Says.Turned 0
-turned_of Turned.Written = Says.Turned 1
+unfoldable pub turned_of : Result Bool Refusal → Answer
+turned_of (Ok written) = Says.Turned (if written then 1 else 0)
+turned_of (Err refusal) = Refused (refusal_number refusal)
 
-unfoldable pub looked_of : Looked → Answer
-looked_of Looked.BadBoard = Refused 6
-looked_of Looked.BadQueue = Refused 1
-looked_of Looked.NotRunning = Refused 7
-looked_of (Looked.Shown evaluations density) = Says.Shown evaluations density
+unfoldable pub looked_of : Result Shown Refusal → Answer
+looked_of (Ok shown) = Says.Shown shown.evaluations shown.density
+looked_of (Err refusal) = Refused (refusal_number refusal)
 
-unfoldable pub quoted_of : Quoted → Answer
-quoted_of Quoted.BadBoard = Refused 6
-quoted_of Quoted.BadQueue = Refused 1
-quoted_of Quoted.BadKind = Refused 2
-quoted_of Quoted.Full = Refused 4
-quoted_of (Quoted.Turns turns) = Says.Quoted turns
+unfoldable pub quoted_of : Result ℕ Refusal → Answer
+quoted_of (Ok turns) = Says.Quoted turns
+quoted_of (Err refusal) = Refused (refusal_number refusal)
 
-unfoldable pub answer_of : Told → Answer
-answer_of (Told.Refused number) = Refused number
-answer_of (Told.Ticket ticket) = Says.Ticket ticket
-answer_of (Told.Turned answer) = Says.Turned answer
-answer_of (Told.Shown evaluations density) = Says.Shown evaluations density
-answer_of (Told.Quoted turns) = Says.Quoted turns
+-- any call's
+unfoldable pub answer_of : Result Reply Refusal → Answer
+answer_of (Ok (Reply.Ticket ticket)) = Says.Ticket ticket
+answer_of (Ok (Reply.Turned written)) = Says.Turned (if written then 1 else 0)
+answer_of (Ok (Reply.Shown shown)) = Says.Shown shown.evaluations shown.density
+answer_of (Ok (Reply.Quoted turns)) = Says.Quoted turns
+answer_of (Err refusal) = Refused (refusal_number refusal)
 
 -- ---- an answer in parts
 

@@ -3,31 +3,22 @@ ghost use Rattle.std.specs.Prelude.{◌≡◌};
 ghost use Rattle.board_spec.specs.Board.{quote_board};
 ghost use Rattle.board.specs.Answers.{quoted_of};
 
-use crate::ranges::fits;
-use crate::types::Quoted;
+use crate::ranges::{fits, lent};
+use crate::types::{Refusal, check};
 
 // Refusals 6, 1, 2 and 4 are tested in this order, as by submit.
-pub fn quote(board: &[u8], queue: u64, kind: u64) -> Quoted
+#[tactic(auto, using(crate::proofs::CallLaws::fits_length, crate::proofs::CallLaws::turn_low, crate::proofs::CallLaws::each_fits), unfolding(board_spec::specs::Board::quote_board, board_spec::specs::Board::quote_judged, board_spec::specs::Board::refused_did, schedule::specs::Schedule::quote_verdict, crate::specs::Answers::quoted_of, crate::specs::Answers::refusal_number))]
+pub fn quote(board: &[u8], queue: u64, kind: u64) -> Result<u64, Refusal>
     ensures { quoted_of result ≡ (quote_board board.now queue kind).answer }
 {
-    if !fits(board) {
-        return Quoted::BadBoard;
-    }
-    if 3 < queue {
-        return Quoted::BadQueue;
-    }
-    let from = 6144 * (queue as usize);
-    let end = from + 6144;
-    let q = &board[from..end];
-    let held = buf::get_u64(q, 8);
+    check(fits(board), Refusal::BadBoard)?;
+    check(queue <= 3, Refusal::BadQueue)?;
+    let q = lent(board, queue);
     let known = schedule::kind_fits(kind);
-    if !known {
-        return Quoted::BadKind;
-    }
-    if 8 <= held {
-        return Quoted::Full;
-    }
+    let held = buf::get_u64(q, 8);
+    check(known, Refusal::BadKind)?;
+    check(held < 8, Refusal::Full)?;
     let turns = quarter::turns_left(q);
     let turn = buf::get_u64(board, 24576);
-    Quoted::Turns(schedule::turns_until(turn, queue, turns, kind))
+    Ok(schedule::turns_until(turn, queue, turns, kind))
 }

@@ -1,50 +1,59 @@
-// What the calls answer. specs/Answers.antt has document 01's number for each refusal.
+// What the calls answer, and why they refuse.
+ghost use Rattle.std.specs.Prelude.{◌≡◌, true, false, MatchResult};
+ghost use Rattle.board.specs.Answers.{refusal_number};
 
-#[derive(Clone, Copy)]
-pub enum Submitted {
-    BadBoard,
+#[derive(Clone, Copy, Debug, PartialEq, Eq)]
+pub enum Refusal {
     BadQueue,
     BadKind,
     BadCount,
-    BadBlockLength,
     Full,
-    Ticket(u64),
-}
-
-#[derive(Clone, Copy)]
-pub enum Turned {
-    BadBoard,
     ShortRecord,
-    Nothing,
-    Written,
-}
-
-#[derive(Clone, Copy)]
-pub enum Looked {
     BadBoard,
-    BadQueue,
     NotRunning,
-    Shown { evaluations: u64, density: f64 },
+    BadBlockLength,
 }
 
-#[derive(Clone, Copy)]
-pub enum Quoted {
-    BadBoard,
-    BadQueue,
-    BadKind,
-    Full,
-    Turns(u64),
+// Document 01's numbers: the one place of the code that has them.
+impl From<Refusal> for u64 {
+    ghost from_gives = { λ refusal number. number ≡ refusal_number refusal };
+
+    #[tactic(auto, unfolding(crate::specs::Answers::refusal_number))]
+    fn from(refusal: Refusal) -> u64 {
+        match refusal {
+            Refusal::BadQueue => 1,
+            Refusal::BadKind => 2,
+            Refusal::BadCount => 3,
+            Refusal::Full => 4,
+            Refusal::ShortRecord => 5,
+            Refusal::BadBoard => 6,
+            Refusal::NotRunning => 7,
+            Refusal::BadBlockLength => 8,
+        }
+    }
 }
 
-// The answer of any call, refusals by document 01's numbers.
+// A test of a call.
+pub fn check(holds: bool, refusal: Refusal) -> Result<(), Refusal>
+    ensures { MatchResult result (λ _. holds ≡ true) (λ e. (holds ≡ false) × (e ≡ refusal)) }
+{
+    if holds { Ok(()) } else { Err(refusal) }
+}
+
+// What a look shows of the running job: its evaluations so far, and the density of the latest one.
 #[derive(Clone, Copy)]
-pub enum Told {
-    Refused(u64),
+pub struct Shown {
+    pub evaluations: u64,
+    pub density: f64,
+}
+
+// The answer of any call.
+#[derive(Clone, Copy)]
+pub enum Reply {
     Ticket(u64),
-    // 1 if a record was written, else 0
-    Turned(u64),
-    // evaluations, density
-    Shown(u64, f64),
+    // whether a record was written
+    Turned(bool),
+    Shown(Shown),
     // accepted turns
     Quoted(u64),
 }

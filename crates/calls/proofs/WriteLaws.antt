@@ -18,22 +18,10 @@ pub framed_written : (w w' a₁ a₂ a₃ v : List ℕ) (at what number : ℕ) �
 unfolding framed
 framed_written w w' a₁ a₂ a₃ v at what number e₁ e₂ e₃ e = rw (e, e₃, e₂, e₁)
 
--- the bytes that a turn's answer shows of a buffer
-abbrev pub shown_of : ℕ → List ℕ → List ℕ
-shown_of answer record' = cond (eqb answer 1) (part record' 0 16) []
-
--- the three ways in which a turn's answer is written
-module _ (w w' b : List ℕ) (at answer : ℕ) where
-  pub turned_none : (answer ≡ 1 → ⊥) → w' ≡ splice w at (framed 2 answer []) → w' ≡ splice w at (framed 2 answer (shown_of answer b))
-  turned_none h e = rw (ne_eqb _ _ h) e
-
-  pub turned_short : answer ≡ 1 → length b < 16 → w' ≡ splice w at (framed 2 1 b) → w' ≡ splice w at (framed 2 answer (shown_of answer b))
-  unfolding part
-  turned_short o h e = let k : length b ≤ 16 = omega arith in rw (o, take_all 16 b k) e
-
-  pub turned_whole : answer ≡ 1 → w' ≡ splice w at (framed 2 1 (take 16 b)) → w' ≡ splice w at (framed 2 answer (shown_of answer b))
-  unfolding part
-  turned_whole o e = rw o e
+-- a record of fewer bytes than are shown of it is shown whole
+pub part_short : (b : List ℕ) → length b < 16 → part b 0 16 ≡ b
+unfolding part
+part_short b h = take_all 16 b (omega arith)
 
 pub length_framed : (what number : ℕ) (v : List ℕ) → length (framed what number v) ≡ 32
 unfolding framed

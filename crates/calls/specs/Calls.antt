@@ -11,13 +11,11 @@
 -- answer has what 4 and the turns as number.
 --
 -- Definitions only.
-use Rattle.std.specs.Prelude.{ℕ, zero, suc, ◌+◌, Bool, true, cond, List, [], ◌∷◌, ◌++◌, length, leb, eqb}
-use Rattle.std.proofs.Math.Option.{Option, none, some}
+use Rattle.std.specs.Prelude.{ℕ, zero, suc, ◌+◌, Bool, true, cond, List, [], ◌∷◌, ◌++◌, length, leb, eqb, Option, None, Some}
 use Rattle.buf.specs.Bytes.{part, splice, u64_at, put_u64, zeros}
 use Rattle.schedule.specs.Schedule.{Call, Submit, Turn, Look}
 use Rattle.board_spec.specs.Run.{Bytes, Calls, Public, refusal, ticketed, turning, looking, quoting}
 use Rattle.calls.specs.declared.types.Call as code_call
-use Rattle.calls.specs.declared.types.Found as code-found
 
 -- ---- calls
 
@@ -29,25 +27,25 @@ pub record Placed : Type 0 where
 unfoldable pub submit_at : Bytes → (at : ℕ) → Option Placed
 submit_at s at =
     cond (leb (at + 40 + u64_at s (at + 32)) (length s))
-    (some (record { call = Submit (u64_at s (at + 8)) (u64_at s (at + 16)) (u64_at s (at + 24)) (part s (at + 40) (u64_at s (at + 32))); next = at + 40 + u64_at s (at + 32) }))
-    none
+    (Some (record { call = Submit (u64_at s (at + 8)) (u64_at s (at + 16)) (u64_at s (at + 24)) (part s (at + 40) (u64_at s (at + 32))); next = at + 40 + u64_at s (at + 32) }))
+    None
 
 unfoldable pub turn_at : Bytes → (at : ℕ) → Option Placed
-turn_at s at = cond (leb (u64_at s (at + 32)) 256) (some (record { call = Turn (zeros (u64_at s (at + 32))); next = at + 40 })) none
+turn_at s at = cond (leb (u64_at s (at + 32)) 256) (Some (record { call = Turn (zeros (u64_at s (at + 32))); next = at + 40 })) None
 
 unfoldable pub look_at : Bytes → (at : ℕ) → Option Placed
-look_at s at = some (record { call = Look (u64_at s (at + 8)); next = at + 40 })
+look_at s at = Some (record { call = Look (u64_at s (at + 8)); next = at + 40 })
 
 -- the call at an offset, if there is one
 unfoldable pub call_at : Bytes → (at : ℕ) → Option Placed
 call_at s at =
     cond (leb (at + 40) (length s))
-    (cond (eqb (u64_at s at) 0) (submit_at s at) (cond (eqb (u64_at s at) 1) (turn_at s at) (cond (eqb (u64_at s at) 2) (look_at s at) none)))
-    none
+    (cond (eqb (u64_at s at) 0) (submit_at s at) (cond (eqb (u64_at s at) 1) (turn_at s at) (cond (eqb (u64_at s at) 2) (look_at s at) None)))
+    None
 
 unfoldable pub before : Option Placed → (ℕ → Calls) → Calls
-before none rest = []
-before (some p) rest = p.call ∷ rest p.next
+before None rest = []
+before (Some p) rest = p.call ∷ rest p.next
 
 -- the calls from an offset on, at most `room`
 unfoldable pub calls_from : (room : ℕ) → Bytes → (at : ℕ) → Calls
@@ -82,9 +80,9 @@ call_with s buffer (code_call.TheVariants.Look queue) = Look queue
 abbrev pub call_of : Bytes → code_call.Call → Call Bytes
 call_of s call = call_with s zeros call
 
-unfoldable pub found_of : Bytes → code-found.Found → Option Placed
-found_of s code-found.TheVariants.End = none
-found_of s (code-found.TheVariants.At call next) = some (record { call = call_of s call; next = next })
+unfoldable pub found_of : Bytes → Option (code_call.Call × ℕ) → Option Placed
+found_of s None = None
+found_of s (Some (call, next)) = Some (record { call = call_of s call; next = next })
 
 -- a block lies in the `size` bytes of calls, and a record buffer is short
 unfoldable pub call_fits : (size : ℕ) → code_call.Call → Bool
@@ -92,6 +90,6 @@ call_fits size (code_call.TheVariants.Submit queue kind n from length) = leb (fr
 call_fits size (code_call.TheVariants.Turn length) = leb length 256
 call_fits size (code_call.TheVariants.Look queue) = true
 
-unfoldable pub found_fits : (size : ℕ) → code-found.Found → Bool
-found_fits size code-found.TheVariants.End = true
-found_fits size (code-found.TheVariants.At call next) = call_fits size call
+unfoldable pub found_fits : (size : ℕ) → Option (code_call.Call × ℕ) → Bool
+found_fits size None = true
+found_fits size (Some (call, next)) = call_fits size call

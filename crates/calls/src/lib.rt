@@ -6,5 +6,5 @@ mod types;
 mod writer;
 
 pub use crate::reading::call_at;
-pub use crate::types::{Call, Found};
+pub use crate::types::Call;
 pub use crate::writer::put_answer;

@@ -1,10 +1,10 @@
-// Reads a call where it stands.
+// Reads a call where it stands, with the index where the next begins.
 ghost use Rattle.std.specs.Prelude.{◌≡◌, true, ◌+◌, ◌≤◌, length};
 ghost use Rattle.calls.specs.Calls.{submit_at, turn_at, look_at, call_at, found_of, found_fits};
 
-use crate::types::{Call, Found};
+use crate::types::Call;
 
-fn submit_at(calls: &[u8], at: usize) -> Found
+fn submit_at(calls: &[u8], at: usize) -> Option<(Call, usize)>
     requires { at + 40 ≤ length calls.now }
     ensures { (found_of calls.now result ≡ submit_at calls.now at) × (found_fits (length calls.now) result ≡ true) }
 {
@@ -14,7 +14,7 @@ fn submit_at(calls: &[u8], at: usize) -> Found
     let length = buf::get_u64(calls, at + 32) as usize;
     let from = at + 40;
     if calls.len() - from < length {
-        return Found::End;
+        return None;
     }
     let call = Call::Submit {
         queue,
@@ -23,49 +23,42 @@ fn submit_at(calls: &[u8], at: usize) -> Found
         from,
         length,
     };
-    Found::At(call, from + length)
+    Some((call, from + length))
 }
 
-fn turn_at(calls: &[u8], at: usize) -> Found
+fn turn_at(calls: &[u8], at: usize) -> Option<(Call, usize)>
     requires { at + 40 ≤ length calls.now }
     ensures { (found_of calls.now result ≡ turn_at calls.now at) × (found_fits (length calls.now) result ≡ true) }
 {
     let length = buf::get_u64(calls, at + 32) as usize;
     if 256 < length {
-        return Found::End;
+        return None;
     }
     let call = Call::Turn { length };
-    Found::At(call, at + 40)
+    Some((call, at + 40))
 }
 
-fn look_at(calls: &[u8], at: usize) -> Found
+fn look_at(calls: &[u8], at: usize) -> Option<(Call, usize)>
     requires { at + 40 ≤ length calls.now }
     ensures { (found_of calls.now result ≡ look_at calls.now at) × (found_fits (length calls.now) result ≡ true) }
 {
     let queue = buf::get_u64(calls, at + 8);
     let call = Call::Look { queue };
-    Found::At(call, at + 40)
+    Some((call, at + 40))
 }
 
 // The call at index `at`, any index.
-pub fn call_at(calls: &[u8], at: usize) -> Found
+#[tactic(auto, unfolding(crate::specs::Calls::found_of, crate::specs::Calls::found_fits, crate::specs::Calls::call_at))]
+pub fn call_at(calls: &[u8], at: usize) -> Option<(Call, usize)>
     ensures { (found_of calls.now result ≡ call_at calls.now at) × (found_fits (length calls.now) result ≡ true) }
 {
-    if calls.len() < 40 {
-        return Found::End;
+    if calls.len() < 40 || calls.len() - 40 < at {
+        return None;
     }
-    if calls.len() - 40 < at {
-        return Found::End;
+    match buf::get_u64(calls, at) {
+        0 => submit_at(calls, at),
+        1 => turn_at(calls, at),
+        2 => look_at(calls, at),
+        _ => None,
     }
-    let what = buf::get_u64(calls, at);
-    if what == 0 {
-        return submit_at(calls, at);
-    }
-    if what == 1 {
-        return turn_at(calls, at);
-    }
-    if what == 2 {
-        return look_at(calls, at);
-    }
-    Found::End
 }

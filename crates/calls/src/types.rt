@@ -17,10 +17,3 @@ pub enum Call {
         queue: u64,
     },
 }
-
-// What stands at an index: a call and where the next begins, or none.
-#[derive(Clone, Copy)]
-pub enum Found {
-    At(Call, usize),
-    End,
-}

@@ -1,11 +1,11 @@
 // Writes the public part of an answer.
-ghost use Rattle.std.specs.Prelude.{◌≡◌, cond, [], ◌+◌, ◌≤◌, length, eqb};
+ghost use Rattle.std.specs.Prelude.{◌≡◌, if◌then◌else◌, [], ◌+◌, ◌≤◌, length};
 ghost use Rattle.buf.specs.Bytes.{part, splice};
 ghost use Rattle.board_spec.specs.Run.{public_of};
 ghost use Rattle.board.specs.Answers.{answer_of};
 ghost use Rattle.calls.specs.Calls.{framed, answer_bytes};
 
-use board::Told;
+use board::{Refusal, Reply};
 
 fn put_framed(out: &mut [u8], at: usize, what: u64, number: u64, written: &[u8])
     requires { (at + 32 ≤ length out.old) × (length written.now ≤ 16) }
@@ -19,12 +19,13 @@ fn put_framed(out: &mut [u8], at: usize, what: u64, number: u64, written: &[u8])
 }
 
 // Of the record that was written only bytes 0 to 15.
-fn put_turned(out: &mut [u8], at: usize, answer: u64, record: &[u8])
+#[tactic(auto, using(crate::proofs::WriteLaws::part_short), unfolding(buf::specs::Bytes::part))]
+fn put_turned(out: &mut [u8], at: usize, written: bool, record: &[u8])
     requires { at + 32 ≤ length out.old }
-    ensures { out.new ≡ splice out.old at (framed 2 answer (cond (eqb answer 1) (part «record».now 0 16) [])) }
+    ensures { out.new ≡ splice out.old at (framed 2 (if written then 1 else 0) (if written then part «record».now 0 16 else [])) }
 {
-    if answer != 1 {
-        put_framed(out, at, 2, answer, b"");
+    if !written {
+        put_framed(out, at, 2, 0, b"");
         return;
     }
     if record.len() < 16 {
@@ -35,15 +36,16 @@ fn put_turned(out: &mut [u8], at: usize, answer: u64, record: &[u8])
 }
 
 // The 32 bytes of an answer at index `at`; `record` is the record buffer after the call, and is read only where a record was written.
-pub fn put_answer(out: &mut [u8], at: usize, told: Told, record: &[u8])
+#[tactic(auto, unfolding(crate::specs::Calls::answer_bytes, board_spec::specs::Run::public_of, board::specs::Answers::answer_of))]
+pub fn put_answer(out: &mut [u8], at: usize, told: Result<Reply, Refusal>, record: &[u8])
     requires { at + 32 ≤ length out.old }
     ensures { out.new ≡ splice out.old at (answer_bytes (public_of (record { answer = answer_of told; buffer = «record».now }))) }
 {
     match told {
-        Told::Refused(number) => put_framed(out, at, 0, number, b""),
-        Told::Ticket(ticket) => put_framed(out, at, 1, ticket, b""),
-        Told::Turned(answer) => put_turned(out, at, answer, record),
-        Told::Shown(_, _) => put_framed(out, at, 3, 0, b""),
-        Told::Quoted(turns) => put_framed(out, at, 4, turns, b""),
+        Ok(Reply::Ticket(ticket)) => put_framed(out, at, 1, ticket, b""),
+        Ok(Reply::Turned(written)) => put_turned(out, at, written, record),
+        Ok(Reply::Shown(_)) => put_framed(out, at, 3, 0, b""),
+        Ok(Reply::Quoted(turns)) => put_framed(out, at, 4, turns, b""),
+        Err(refusal) => put_framed(out, at, 0, u64::from(refusal), b""),
     }
 }

@@ -10,7 +10,6 @@ ghost use Rattle.writer.specs.Packed.{filed_by};
 ghost use Rattle.writer.specs.Laws.{Answers};
 
 use block::Conditions;
-use board::Told;
 
 // A whole job without a board: the record's sealed bytes.
 #[unsafe(no_mangle)]
@@ -47,6 +46,7 @@ pub extern "C" fn pr_write_block(
 }
 
 // The board's calls. specs/Answers.antt of `board` says what their number means; on a refusal ticket, evaluations, density and turns stay.
+#[tactic(auto, unfolding(board::specs::Answers::number_of, board::specs::Answers::ticket_of, board::specs::Answers::submitted_of))]
 #[unsafe(no_mangle)]
 pub extern "C" fn pr_submit(
     board: &mut [u8],
@@ -58,42 +58,51 @@ pub extern "C" fn pr_submit(
 ) -> u64
     ensures { (result ≡ number_said (submit_board board.old queue kind n block.now).answer) × (board.new ≡ (submit_board board.old queue kind n block.now).board) × (ticket.new ≡ ticket_of ticket.old (submit_board board.old queue kind n block.now).answer) }
 {
-    let told = board::tell_submit(board, queue, kind, n, block);
-    let Told::Ticket(count) = told else {
-        return board::number(told);
-    };
-    *ticket = count;
-    0
+    match board::submit(board, queue, kind, n, block) {
+        Ok(count) => {
+            *ticket = count;
+            0
+        }
+        Err(refusal) => u64::from(refusal),
+    }
 }
 
+#[tactic(auto, unfolding(board::specs::Answers::number_of, board::specs::Answers::turned_of))]
 #[unsafe(no_mangle)]
 pub extern "C" fn pr_turn(board: &mut [u8], record: &mut [u8]) -> u64
     ensures { (result ≡ number_said (turn_board board.old «record».old).answer) × (board.new ≡ (turn_board board.old «record».old).board) × («record».new ≡ (turn_board board.old «record».old).buffer) }
 {
-    board::number(board::tell_turn(board, record))
+    match board::turn(board, record) {
+        Ok(written) => u64::from(written),
+        Err(refusal) => u64::from(refusal),
+    }
 }
 
+#[tactic(auto, unfolding(board::specs::Answers::number_of, board::specs::Answers::evaluations_of, board::specs::Answers::density_of, board::specs::Answers::looked_of))]
 #[unsafe(no_mangle)]
 pub extern "C" fn pr_look(board: &[u8], queue: u64, evaluations: &mut u64, density: &mut f64) -> u64
     ensures { (result ≡ number_said (look_board board.now queue).answer) × (evaluations.new ≡ evaluations_of evaluations.old (look_board board.now queue).answer) × (density.new ≡ density_of density.old (look_board board.now queue).answer) }
 {
-    let told = board::tell_look(board, queue);
-    let Told::Shown(made, latest) = told else {
-        return board::number(told);
-    };
-    *evaluations = made;
-    *density = latest;
-    0
+    match board::look(board, queue) {
+        Ok(shown) => {
+            *evaluations = shown.evaluations;
+            *density = shown.density;
+            0
+        }
+        Err(refusal) => u64::from(refusal),
+    }
 }
 
+#[tactic(auto, unfolding(board::specs::Answers::number_of, board::specs::Answers::turns_of, board::specs::Answers::quoted_of))]
 #[unsafe(no_mangle)]
 pub extern "C" fn pr_quote(board: &[u8], queue: u64, kind: u64, turns: &mut u64) -> u64
     ensures { (result ≡ number_said (quote_board board.now queue kind).answer) × (turns.new ≡ turns_of turns.old (quote_board board.now queue kind).answer) }
 {
-    let told = board::tell_quote(board, queue, kind);
-    let Told::Quoted(count) = told else {
-        return board::number(told);
-    };
-    *turns = count;
-    0
+    match board::quote(board, queue, kind) {
+        Ok(count) => {
+            *turns = count;
+            0
+        }
+        Err(refusal) => u64::from(refusal),
+    }
 }

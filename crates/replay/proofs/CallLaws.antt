@@ -18,8 +18,6 @@ use Rattle.board_spec.specs.Quarter.{first_kind, DidQuarter, turn_quarter}
 use Rattle.board_spec.specs.Board.{Answer, Refused, Ticket, Turned, Shown, Quoted, refused_did, board_fits, submit_judged, submit_board, turn_did, turn_judged, turn_board, look_judged, look_board, quote_judged, quote_board}
 use Rattle.board_spec.specs.Run.{Bytes, did, buffer_of, reply_by, Public, turning, public_of}
 use Rattle.board_spec.proofs.Runs.{look_unchanged}
-use Rattle.board.specs.declared.types.Told.{Told}
-use Rattle.board.specs.Answers.{answer_of}
 use Rattle.calls.specs.declared.types.Call as code_call
 use Rattle.calls.specs.Calls.{answer_bytes, call_with, call_of, call_fits}
 use Rattle.replay.specs.Replay.{ToldCall, MadeCall}
@@ -114,33 +112,33 @@ submit_buffer : (b : Bytes) (queue kind n : ℕ) (block : Bytes) → [] ≡ (sub
 unfolding submit_board
 submit_buffer b queue kind n block = submit_none b queue kind n block _
 
-module _ (s : Bytes) (c : code_call.Call) (b r : Bytes) (t : Told) where
+module _ (s : Bytes) (c : code_call.Call) (b r : Bytes) (a : Answer) where
   pub submit_told : (queue kind n from l : ℕ) (b' block : Bytes) → c ≡ code_call.TheVariants.Submit queue kind n from l → block ≡ part s from l
-      → answer_of t ≡ (submit_board b queue kind n block).answer → b' ≡ (submit_board b queue kind n block).board → ToldCall b r (call_with s (part r 0) c) (answer_of t) b' r
+      → a ≡ (submit_board b queue kind n block).answer → b' ≡ (submit_board b queue kind n block).board → ToldCall b r (call_with s (part r 0) c) a b' r
   unfolding call_with did
   submit_told queue kind n from l b' block e p ea eb =
       rw (e, ← p) (record { answer = ea; board = eb; buffer = sym (splice_nil r 0) ∙ ap (splice r 0) (submit_buffer b queue kind n block) })
 
-  pub turn_told : (l : ℕ) (b' r' : Bytes) → c ≡ code_call.TheVariants.Turn l → ToldCall b r (Turn (part r 0 l)) (answer_of t) b' r' → ToldCall b r (call_with s (part r 0) c) (answer_of t) b' r'
+  pub turn_told : (l : ℕ) (b' r' : Bytes) → c ≡ code_call.TheVariants.Turn l → ToldCall b r (Turn (part r 0 l)) a b' r' → ToldCall b r (call_with s (part r 0) c) a b' r'
   unfolding call_with
   turn_told l b' r' e h = rw e h
 
-  pub look_told : (queue : ℕ) → c ≡ code_call.TheVariants.Look queue → answer_of t ≡ (look_board b queue).answer → ToldCall b r (call_with s (part r 0) c) (answer_of t) b r
+  pub look_told : (queue : ℕ) → c ≡ code_call.TheVariants.Look queue → a ≡ (look_board b queue).answer → ToldCall b r (call_with s (part r 0) c) a b r
   unfolding call_with did buffer_of
   look_told queue e ea =
       rw e (record { answer = ea; board = sym (look_unchanged b queue).board; buffer = sym (splice_nil r 0) ∙ ap (splice r 0) (sym (look_unchanged b queue).buffer) })
 
 -- a turn with all of a buffer, and with its start
-module _ (b r : Bytes) (l : ℕ) (t : Told) (b' : Bytes) where
-  pub turn_all : (r' : Bytes) → length r < l → length r' ≡ length r → answer_of t ≡ (turn_board b r).answer → b' ≡ (turn_board b r).board → r' ≡ (turn_board b r).buffer
-      → ToldCall b r (Turn (part r 0 l)) (answer_of t) b' r'
+module _ (b r : Bytes) (l : ℕ) (a : Answer) (b' : Bytes) where
+  pub turn_all : (r' : Bytes) → length r < l → length r' ≡ length r → a ≡ (turn_board b r).answer → b' ≡ (turn_board b r).board → r' ≡ (turn_board b r).buffer
+      → ToldCall b r (Turn (part r 0 l)) a b' r'
   unfolding did part
   turn_all r' h k ea eb er =
       let z : length r ≤ l = omega arith in
       rw (take_all l r z) (record { answer = ea; board = eb; buffer = sym (splice_whole r r' k) ∙ ap (splice r 0) er })
 
-  pub turn_start : (v : Bytes) → l ≤ length r → length v ≡ length (take l r) → answer_of t ≡ (turn_board b (take l r)).answer → b' ≡ (turn_board b (take l r)).board → v ≡ (turn_board b (take l r)).buffer
-      → ToldCall b r (Turn (part r 0 l)) (answer_of t) b' (v ++ drop l r)
+  pub turn_start : (v : Bytes) → l ≤ length r → length v ≡ length (take l r) → a ≡ (turn_board b (take l r)).answer → b' ≡ (turn_board b (take l r)).board → v ≡ (turn_board b (take l r)).buffer
+      → ToldCall b r (Turn (part r 0 l)) a b' (v ++ drop l r)
   unfolding did part
   turn_start v h k ea eb ev =
       let n : length v ≡ l = k ∙ length-take-le l r h in
@@ -171,15 +169,15 @@ public_start (Turned answer) u v h = go (eqb answer 1) refl
 public_start (Shown evaluations density) u v h = refl
 public_start (Quoted turns) u v h = refl
 
-pub call_made : (s b b' w w' r' : Bytes) (at : ℕ) (c : code_call.Call) (t : Told) → call_fits (length s) c ≡ true → ToldCall b (zeros 256) (call_with s (part (zeros 256) 0) c) (answer_of t) b' r'
-    → w' ≡ splice w at (answer_bytes (public_of (record { answer = answer_of t; buffer = r' }))) → MadeCall b w at (call_of s c) b' w'
+pub call_made : (s b b' w w' r' : Bytes) (at : ℕ) (c : code_call.Call) (a : Answer) → call_fits (length s) c ≡ true → ToldCall b (zeros 256) (call_with s (part (zeros 256) 0) c) a b' r'
+    → w' ≡ splice w at (answer_bytes (public_of (record { answer = a; buffer = r' }))) → MadeCall b w at (call_of s c) b' w'
 unfolding reply_by
-call_made s b b' w w' r' at c t f h e =
-    let m : ToldCall b (zeros 256) (call_of s c) (answer_of t) b' r' = told_zeros s c f h in
+call_made s b b' w w' r' at c a f h e =
+    let m : ToldCall b (zeros 256) (call_of s c) a b' r' = told_zeros s c f h in
     record {
       board = m.board;
       answers =
           e
-          ∙ ap (λ (p : Public). splice w at (answer_bytes p)) (public_start (answer_of t) r' (did b (call_of s c)).buffer (record_start m (omega (arith, length_zeros 256))))
-          ∙ ap (λ (a : Answer). splice w at (answer_bytes (public_of (record { answer = a; buffer = (did b (call_of s c)).buffer })))) m.answer;
+          ∙ ap (λ (p : Public). splice w at (answer_bytes p)) (public_start a r' (did b (call_of s c)).buffer (record_start m (omega (arith, length_zeros 256))))
+          ∙ ap (λ (x : Answer). splice w at (answer_bytes (public_of (record { answer = x; buffer = (did b (call_of s c)).buffer })))) m.answer;
     }

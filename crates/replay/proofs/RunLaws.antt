@@ -3,7 +3,6 @@ use mathlib.Core.Path.{◌≡◌, refl, sym, ap, ◌∙◌}
 use Prim.Native.Nat.{ℕ, zero, suc, ◌+◌, ◌-◌, ◌*◌, ◌/◌, ◌≤◌, ◌<◌}
 use mathlib.Core.Bool.{true}
 use mathlib.Core.List.{List, [], ◌∷◌, map}
-use mathlib.Core.Option.{Option, none, some}
 use native.Mathlib.Omega.{arith}
 use native.Mathlib.Nat.{sub-zero, zero-add}
 use lib.ListN.{length, set}
@@ -15,29 +14,11 @@ use Rattle.board_spec.specs.Layout.{board_length}
 use Rattle.board_spec.specs.Run.{Bytes, Calls, zero_board, did, board_after, reply_by, replies, Public, public_of}
 use Rattle.board_spec.proofs.Runs.{public_told}
 use Rattle.calls.specs.declared.types.Call as code_call
-use Rattle.calls.specs.declared.types.Found.{Found}
-use Rattle.calls.specs.declared.types.Found.TheVariants.{At, End}
 use Rattle.calls.specs.Calls.{Placed, call_at, before, calls_from, answer_bytes, answers_bytes, call_of, found_of, call_fits, found_fits}
 use Rattle.calls.proofs.WriteLaws.{length_answer}
 use Rattle.replay.proofs.CallLaws.{splice_whole}
-use Rattle.replay.specs.declared.types.Replayed.TheVariants.{BadBoard, Made}
+use Rattle.std.specs.Prelude.{Option, None, Some, Ok, Err}
 use Rattle.replay.specs.Replay.{calls_for, replayed, replay_did, MadeCall, MadeRun}
-
--- ---- a slice cleared element by element
-
-pub clear_step : (s w : List ℕ) (n i : ℕ) → i < n → splice s i (zeros (n - i)) ≡ w → splice (set s i 0) (i + 1) (zeros (n - (i + 1))) ≡ w
-unfolding zeros
-clear_step s w n i h e =
-    let e₁ : n - i ≡ suc (n - (i + 1)) = omega arith in
-    let e₂ : suc i ≡ i + 1 = omega arith in
-    sym (ap (λ (k : ℕ). splice s i (zeros k)) e₁ ∙ splice_cons s i 0 (zeros (n - (i + 1))) ∙ ap (λ (k : ℕ). splice (set s i 0) k (zeros (n - (i + 1)))) e₂) ∙ e
-
-pub clear_end : (s w : List ℕ) (n i : ℕ) → n ≤ i → splice s i (zeros (n - i)) ≡ w → s ≡ w
-unfolding zeros
-clear_end s w n i h e = let z : n - i ≡ 0 = omega arith in sym (splice_nil s i) ∙ ap (λ (k : ℕ). splice s i (zeros k)) (sym z) ∙ e
-
-pub clear_start : (s : List ℕ) → splice s 0 (zeros (length s - 0)) ≡ zeros (length s)
-clear_start s = ap (λ (k : ℕ). splice s 0 (zeros k)) (sub-zero (length s)) ∙ splice_whole s (zeros (length s)) (length_zeros (length s))
 
 -- ---- what is left to do where `made` calls have been made: the rest of the run gives the whole
 
@@ -92,7 +73,7 @@ left_start s b w room e =
       count = zero-add (length (calls_from (room - 0) s 0)) ∙ ap (λ (k : ℕ). length (calls_from k s 0)) z;
     }
 
-end_none : (s : Bytes) (at : ℕ) → none ≡ call_at s at → (k : ℕ) → calls_from k s at ≡ []
+end_none : (s : Bytes) (at : ℕ) → None ≡ call_at s at → (k : ℕ) → calls_from k s at ≡ []
 unfolding calls_from before
 end_none s at n zero = refl
 end_none s at n (suc k) = rw (← n)
@@ -103,44 +84,48 @@ module _ (s b₀ w₀ b w : Bytes) (room made at : ℕ) (l : LeftOf s b₀ w₀ 
       let r = rest_none _ _ _ _ _ _ (rest_of [] e l) in
       record { board = r.0; answers = r.1; count = r.2 }
 
-  pub left_end : (r : Found) → r ≡ End → found_of s r ≡ call_at s at → MadeRun b₀ w₀ (calls_for s w₀) b w made
+  pub left_end : (r : Option (code_call.Call × ℕ)) → r ≡ None → found_of s r ≡ call_at s at → MadeRun b₀ w₀ (calls_for s w₀) b w made
   unfolding found_of
   left_end r e f = no_more (end_none s at (rw e at f) (room - made))
 
-  pub left_full : room ≤ made → MadeRun b₀ w₀ (calls_for s w₀) b w made
+  pub left_full : room ≤ made → made ≤ room → MadeRun b₀ w₀ (calls_for s w₀) b w room
   unfolding calls_from
-  left_full h = let z : room - made ≡ 0 = omega arith in no_more (ap (λ (k : ℕ). calls_from k s at) z)
+  left_full h k =
+      let z : room - made ≡ 0 = omega arith in
+      let e : made ≡ room = omega arith in
+      let m : MadeRun b₀ w₀ (calls_for s w₀) b w made = no_more (ap (λ (k : ℕ). calls_from k s at) z) in
+      record { board = m.board; answers = m.answers; count = sym e ∙ m.count }
 
-  pub left_step : (r : Found) (c : code_call.Call) (next : ℕ) (b₁ w₁ : Bytes) → made < room → r ≡ At c next → found_of s r ≡ call_at s at → MadeCall b w (32 * made) (call_of s c) b₁ w₁
+  pub left_step : (r : Option (code_call.Call × ℕ)) (c : code_call.Call) (next : ℕ) (b₁ w₁ : Bytes) → made < room → r ≡ Some (c, next) → found_of s r ≡ call_at s at → MadeCall b w (32 * made) (call_of s c) b₁ w₁
       → LeftOf s b₀ w₀ b₁ w₁ room (made + 1) next
   unfolding calls_from before found_of
   left_step r c next b₁ w₁ h e f m =
       let z : room - made ≡ suc (room - (made + 1)) = omega arith in
-      let g : some (record { call = call_of s c; next = next }) ≡ call_at s at = rw e at f in
+      let g : Some (record { call = call_of s c; next = next }) ≡ call_at s at = rw e at f in
       let whole : calls_from (room - made) s at ≡ call_of s c ∷ calls_from (room - (made + 1)) s next = ap (λ (k : ℕ). calls_from k s at) z ∙ ap (λ (o : Option Placed). before o (calls_from (room - (made + 1)) s)) (sym g) in
       let t = rest_cons b w made (call_of s c) (calls_from (room - (made + 1)) s next) b₁ w₁ _ _ _ m (rest_of _ whole l) in
       record { board = t.board; answers = t.answers; count = t.count }
 
 -- what a call that was found is known to fit
-pub found_fits_lem : (size : ℕ) (r : Found) (c : code_call.Call) (next : ℕ) → r ≡ At c next → found_fits size r ≡ true → call_fits size c ≡ true
+pub found_fits_lem : (size : ℕ) (r : Option (code_call.Call × ℕ)) (c : code_call.Call) (next : ℕ) → r ≡ Some (c, next) → found_fits size r ≡ true → call_fits size c ≡ true
 unfolding found_fits
 found_fits_lem size r c next e f = rw e at f
 
 -- ---- the whole
 
 -- a board of another length
-pub replay_bad : (b s w : Bytes) → (length b ≡ board_length → ⊥) → (BadBoard ≡ (replay_did b s w).answer) × (b ≡ (replay_did b s w).board) × (w ≡ (replay_did b s w).answers)
+pub replay_bad : (b s w : Bytes) → (length b ≡ board_length → ⊥) → (Err (record {}) ≡ (replay_did b s w).answer) × (b ≡ (replay_did b s w).board) × (w ≡ (replay_did b s w).answers)
 unfolding replay_did
 replay_bad b s w h = simp (ne_eqb _ _ h) (refl, refl, refl)
 
 -- from zeros the public answers are the schedule's, told by the public fields
 pub replay_made : (b s w b₁ b₂ w₂ : Bytes) (made : ℕ) → length b ≡ board_length → b₁ ≡ zeros (length b) → MadeRun b₁ w (calls_for s w) b₂ w₂ made
-    → (Made made ≡ (replay_did b s w).answer) × (b₂ ≡ (replay_did b s w).board) × (w₂ ≡ (replay_did b s w).answers)
+    → (Ok made ≡ (replay_did b s w).answer) × (b₂ ≡ (replay_did b s w).board) × (w₂ ≡ (replay_did b s w).answers)
 unfolding replay_did replayed zero_board
 replay_made b s w b₁ b₂ w₂ made h e m =
     let z : b₁ ≡ zeros board_length = e ∙ ap zeros h in
     simp (eq-eqb _ _ h) (
-      ap Made m.count,
+      ap Ok m.count,
       m.board ∙ ap (λ (x : Bytes). board_after x (calls_for s w)) z,
       m.answers
           ∙ ap (λ (x : Bytes). splice w 0 (answers_bytes (map public_of (replies x (calls_for s w))))) z

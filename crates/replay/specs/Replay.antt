@@ -1,13 +1,12 @@
 -- A whole run from bytes: the calls that stand in them are made on a fresh board, and what the public sees of each is written. Definitions only.
-use Rattle.std.specs.Prelude.{◌≡◌, ℕ, ◌/◌, cond, map, length, eqb}
+use Rattle.std.specs.Prelude.{◌≡◌, ℕ, ◌/◌, cond, map, length, eqb, Result, Ok, Err}
 use Rattle.buf.specs.Bytes.{splice}
 use Rattle.schedule.specs.Schedule.{Call, events, fresh}
 use Rattle.board_spec.specs.Layout.{board_length}
 use Rattle.board_spec.specs.Board.{Answer}
 use Rattle.board_spec.specs.Run.{Bytes, Calls, zero_board, did, board_after, reply_by, replies, fields_of, public_of, public_event}
 use Rattle.calls.specs.Calls.{calls_from, answer_bytes, answers_bytes}
-use Rattle.replay.specs.declared.types.Replayed.{Replayed}
-use Rattle.replay.specs.declared.types.Replayed.TheVariants.{BadBoard, Made}
+use Rattle.replay.specs.declared.types.BadBoard.{BadBoard}
 
 -- as many calls as there is room for answers
 unfoldable pub calls_for : (calls answers : Bytes) → Calls
@@ -19,7 +18,7 @@ replayed run answers = splice answers 0 (answers_bytes (map public_event (events
 
 -- what is answered, and the board and the answers' bytes afterwards
 pub record Did : Type 0 where
-  pub answer : Replayed
+  pub answer : Result ℕ BadBoard
   pub board : Bytes
   pub answers : Bytes
 
@@ -28,11 +27,11 @@ unfoldable pub replay_did : (board calls answers : Bytes) → Did
 replay_did board calls answers =
     cond (eqb (length board) board_length)
     (record {
-      answer = Made (length (calls_for calls answers));
+      answer = Ok (length (calls_for calls answers));
       board = board_after zero_board (calls_for calls answers);
       answers = replayed (calls_for calls answers) answers;
     })
-    (record { answer = BadBoard; board = board; answers = answers })
+    (record { answer = Err (record {}); board = board; answers = answers })
 
 -- ---- what the parts of the code do
 

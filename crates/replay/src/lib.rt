@@ -7,4 +7,4 @@ mod types;
 
 pub use crate::making::tell_call;
 pub use crate::runs::{clear, replay};
-pub use crate::types::Replayed;
+pub use crate::types::BadBoard;

@@ -6,25 +6,26 @@ ghost use Rattle.board.specs.Answers.{answer_of};
 ghost use Rattle.calls.specs.Calls.{call_with, call_of, call_fits};
 ghost use Rattle.replay.specs.Replay.{ToldCall, MadeCall};
 
-use board::Told;
+use board::{Refusal, Reply};
 use calls::Call;
 
 // The bytes of s from index `from`, at most `length`.
+#[tactic(auto, unfolding(buf::specs::Bytes::part))]
 fn part_of(s: &[u8], from: usize, length: usize) -> &[u8]
     ensures { result.now ≡ part s.now from length }
 {
     if s.len() <= from {
         return &s[..0];
     }
-    if s.len() - from < length {
-        return &s[from..];
+    let rest = &s[from..];
+    if rest.len() < length {
+        return rest;
     }
-    let end = from + length;
-    &s[from..end]
+    &rest[..length]
 }
 
 // A turn with the first bytes of `record` as its buffer, at most `length`.
-fn tell_turn(board: &mut [u8], record: &mut [u8], length: usize) -> Told
+fn tell_turn(board: &mut [u8], record: &mut [u8], length: usize) -> Result<Reply, Refusal>
     ensures { ToldCall board.old «record».old (Turn (part «record».old 0 length)) (answer_of result) board.new «record».new }
 {
     if record.len() < length {
@@ -34,7 +35,12 @@ fn tell_turn(board: &mut [u8], record: &mut [u8], length: usize) -> Told
 }
 
 // A turn's buffer is the start of `record`, which a submit and a look leave alone.
-pub fn tell_call(board: &mut [u8], calls: &[u8], call: Call, record: &mut [u8]) -> Told
+pub fn tell_call(
+    board: &mut [u8],
+    calls: &[u8],
+    call: Call,
+    record: &mut [u8],
+) -> Result<Reply, Refusal>
     ensures { ToldCall board.old «record».old (call_with calls.now (part «record».old 0) call) (answer_of result) board.new «record».new }
 {
     match call {

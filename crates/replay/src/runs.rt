@@ -4,17 +4,13 @@ ghost use Rattle.buf.specs.Bytes.{zeros};
 ghost use Rattle.replay.specs.Replay.{calls_for, replay_did, MadeRun};
 
 use crate::making::make_call;
-use crate::types::Replayed;
-use calls::Found;
+use crate::types::BadBoard;
 
+#[tactic(auto, unfolding(buf::specs::Bytes::zeros))]
 pub fn clear(s: &mut [u8])
     ensures { s.new ≡ zeros (length s.old) }
 {
-    let mut i: usize = 0;
-    while i < s.len() {
-        s[i] = 0;
-        i += 1;
-    }
+    s.fill(0);
 }
 
 // On any board, as it is. Answers how many calls were made.
@@ -23,25 +19,23 @@ fn make_calls(board: &mut [u8], calls: &[u8], answers: &mut [u8]) -> usize
 {
     let room = answers.len() / 32;
     let mut at: usize = 0;
-    let mut made: usize = 0;
-    while made < room {
-        let Found::At(call, next) = calls::call_at(calls, at) else {
+    for made in 0..room {
+        let Some((call, next)) = calls::call_at(calls, at) else {
             return made;
         };
         make_call(board, calls, call, answers, 32 * made);
         at = next;
-        made += 1;
     }
-    made
+    room
 }
 
 // Clears the board, makes the calls and writes what the public sees of each, 32 bytes a call, as many as `answers` has room for.
-pub fn replay(board: &mut [u8], calls: &[u8], answers: &mut [u8]) -> Replayed
+pub fn replay(board: &mut [u8], calls: &[u8], answers: &mut [u8]) -> Result<u64, BadBoard>
     ensures { (result ≡ (replay_did board.old calls.now answers.old).answer) × (board.new ≡ (replay_did board.old calls.now answers.old).board) × (answers.new ≡ (replay_did board.old calls.now answers.old).answers) }
 {
     if board.len() != 24584 {
-        return Replayed::BadBoard;
+        return Err(BadBoard);
     }
     clear(board);
-    Replayed::Made(make_calls(board, calls, answers) as u64)
+    Ok(make_calls(board, calls, answers) as u64)
 }

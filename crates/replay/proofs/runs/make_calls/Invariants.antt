@@ -7,8 +7,5 @@ use Rattle.replay.proofs.runs.make_calls.Given as goal
 
 abbrev pub invariant-loop-made : goal.invariant-loop-made
 invariant-loop-made l =
-    (l.made ≤ l.room) × (l.room ≡ length l.initial.answers / 32) × (length l.board ≡ length l.initial.board) × (length l.answers ≡ length l.initial.answers)
+    (l.room ≡ length l.initial.answers / 32) × (length l.board ≡ length l.initial.board) × (length l.answers ≡ length l.initial.answers)
     × LeftOf l.calls l.initial.board l.initial.answers l.board l.answers l.room l.made l.at
-
-abbrev pub decreases-loop-made : goal.decreases-loop-made
-decreases-loop-made l = l.room - l.made
