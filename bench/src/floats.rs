@@ -79,77 +79,7 @@ pub fn rows() -> Vec<Row> {
     ]
 }
 
-/// A twin of crates/float/src/root.rt from `estimate` to `whole_root` that tells how the digits were found.
-mod twin {
-    const HIDDEN_BIT: u64 = 1 << 52;
-    const HALF: u64 = 1 << 27;
-
-    pub enum Found {
-        /// after so many steps of `count_up`
-        Counted(u64),
-        /// by the digit loop
-        Digits,
-    }
-
-    fn estimate(m: u64) -> f64 {
-        let odd = m / (2 * HIDDEN_BIT);
-        let digits = m >> odd;
-        let f = f64::from_bits(1022 * HIDDEN_BIT + digits);
-        let v = f64::from_bits((1022 + odd) * HIDDEN_BIT + digits);
-        let g = f * f;
-        let p = 0.323953838 + 0.919711865 * f + g * (-0.321493498 + 0.0885725434 * f - 0.0107363865 * g);
-        let y = p * if odd == 0 { 1.0 } else { 1.4142135623730951 };
-        (y + 4.0) + v * 0.9999999998 / y
-    }
-
-    fn upper_half(t: f64) -> u64 {
-        if t < 8.0 { t.to_bits() % HIDDEN_BIT / 0x200_0000 } else { 0 }
-    }
-
-    fn lower_half(t: f64, a: u64, d: u64) -> u64 {
-        let sum = (t - 4.0) * 0.2500000001 + (a as f64) * 0.000000007450580596923828125;
-        let b = (d as f64) / sum + 4503599627370495.5;
-        if b < 9007199254740992.0 { b.to_bits() % 0x2000_0000 } else { 0 }
-    }
-
-    fn found(m: u64) -> Found {
-        let t = estimate(m);
-        let a = upper_half(t);
-        if a * a > m || m - a * a >= 0x4000_0000 {
-            return Found::Digits;
-        }
-        let d = m - a * a;
-        let b = lower_half(t, a, d);
-        if 2 * a * b > d * HALF {
-            return Found::Digits;
-        }
-        let u = d * HALF - 2 * a * b;
-        if u >= 0x1_0000_0000 || b * b > u * HALF {
-            return Found::Digits;
-        }
-        let (mut r, mut left, mut steps) = (a * HALF + b, u * HALF - b * b, 0);
-        while 2 * r < left {
-            left -= 2 * r + 1;
-            r += 1;
-            steps += 1;
-        }
-        Found::Counted(steps)
-    }
-
-    /// For a positive finite x.
-    pub fn of(x: f64) -> Found {
-        let b = x.to_bits();
-        let (m, j) = if b < HIDDEN_BIT {
-            let z = b.leading_zeros() as u64;
-            (b << (z - 11), 63 - z)
-        } else {
-            (HIDDEN_BIT + b % HIDDEN_BIT, b / HIDDEN_BIT + 51)
-        };
-        found(m << (j % 2))
-    }
-}
-
-/// How the digits of the root are found, and that the bits are the machine's.
+/// That the bits of the root are those that the Rust's compiler gives.
 pub fn print_counts() {
     let mut random = Random(0x9e3779b97f4a7c15);
     let mut sets: Vec<(&str, Vec<f64>)> = vec![("random", (0..20_000_000).map(|_| random.positive()).collect())];
@@ -173,20 +103,9 @@ pub fn print_counts() {
     }
     sets.push(("next to squares", squares));
     println!();
-    println!("{:<24} {:>10} {:>12} {:>10} {:>10} {:>12}", "sqrt on", "inputs", "digit loop", "one step", "more steps", "other bits");
+    println!("{:<24} {:>10} {:>12}", "sqrt on", "inputs", "other bits");
     for (name, xs) in &sets {
-        let (mut digits, mut one, mut more, mut other) = (0u64, 0u64, 0u64, 0u64);
-        for &x in xs {
-            match twin::of(x) {
-                twin::Found::Digits => digits += 1,
-                twin::Found::Counted(0) => {}
-                twin::Found::Counted(1) => one += 1,
-                twin::Found::Counted(_) => more += 1,
-            }
-            if sqrt(x).to_bits() != x.sqrt().to_bits() {
-                other += 1;
-            }
-        }
-        println!("{:<24} {:>10} {:>12} {:>10} {:>10} {:>12}", name, xs.len(), digits, one, more, other);
+        let other = xs.iter().filter(|x| sqrt(**x).to_bits() != x.sqrt().to_bits()).count();
+        println!("{:<24} {:>10} {:>12}", name, xs.len(), other);
     }
 }
