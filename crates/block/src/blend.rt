@@ -1,42 +1,15 @@
-// The numbers of a blend, read from a block into zeroed arrays, each with its check: 12, 13 and 14.
+// The numbers of a blend, read from a block into one of zeros, each with its check: 12, 13 and 14.
 ghost use Rattle.std.specs.Prelude.{◌≡◌, ◌+◌, ◌-◌, ◌*◌, ◌/◌, ◌%◌, ◌≤◌, ◌<◌, true, cond, length, replicate};
-ghost use Rattle.float.specs.Ops.{f0, f1};
+ghost use Rattle.float.specs.Ops.{f0};
 ghost use Rattle.eos.specs.Cubic.{element_of, alone, pure_of};
 ghost use Rattle.block.specs.Lists.{tabulate};
 ghost use Rattle.block.specs.Numbers.{floats_at, coefficient_count, interaction_count, reads_fractions, fraction_count};
-ghost use Rattle.block.specs.Blend.{at as at_row, component_at, interaction_at, empty_blend, with_components, with_interactions, with_fractions};
+ghost use Rattle.block.specs.Blend.{interaction_at, empty_blend, with_components, with_interactions, with_fractions};
 ghost use Rattle.block.specs.Checks.{components_fit, interactions_fit, fractions_fit};
 
 use crate::checks::{component, finite_at, fraction_fits};
 use crate::numbers::{fraction_count, reads_fractions};
 use eos::Blend;
-
-pub fn read_components(
-    n: usize,
-    block: &[u8],
-    at: usize,
-    tc: &mut [f64; 8],
-    a: &mut [f64; 8],
-    b: &mut [f64; 8],
-    kappa: &mut [f64; 8],
-) -> bool
-    requires { (n ≤ 8) × (at + 24 * n ≤ length block.now) × (tc.old ≡ replicate 8 f0) × (a.old ≡ replicate 8 f0) × (b.old ≡ replicate 8 f0) × (kappa.old ≡ replicate 8 f0) }
-    ensures { (result ≡ components_fit n (floats_at (coefficient_count n) block.now at)) × (result ≡ true → (tc.new ≡ tabulate 8 (λ i. (component_at n (floats_at (coefficient_count n) block.now at) i).tc)) × (a.new ≡ tabulate 8 (λ i. (component_at n (floats_at (coefficient_count n) block.now at) i).a)) × (b.new ≡ tabulate 8 (λ i. (component_at n (floats_at (coefficient_count n) block.now at) i).b)) × (kappa.new ≡ tabulate 8 (λ i. (component_at n (floats_at (coefficient_count n) block.now at) i).kappa))) }
-{
-    let mut i: usize = 0;
-    while i < n {
-        let from = at + 24 * i;
-        let Some(c) = component(block, from) else {
-            return false;
-        };
-        tc[i] = c.tc;
-        a[i] = c.a;
-        b[i] = c.b;
-        kappa[i] = c.kappa;
-        i += 1;
-    }
-    true
-}
 
 // The components into a blend that has none yet. Where one does not fit, the blend is left half read.
 pub fn read_blend_components(n: usize, block: &[u8], at: usize, blend: &mut Blend) -> bool
@@ -85,40 +58,6 @@ fn interactions_fit(n: usize, block: &[u8], at: usize) -> bool
 }
 
 // The interactions that a kind searches with: those of the whole blend, or none.
-pub fn read_searched_interactions(
-    kind: u64,
-    n: usize,
-    block: &[u8],
-    at: usize,
-    k_ij: &mut [f64; 64],
-) -> bool
-    requires { (1 ≤ n) × (n ≤ 8) × (at + 4 * (n * (n - 1)) ≤ length block.now) × (k_ij.old ≡ replicate 64 f0) }
-    ensures { (result ≡ interactions_fit n (floats_at (interaction_count n) block.now at)) × (result ≡ true → k_ij.new ≡ cond (reads_fractions kind) (tabulate 64 (λ q. interaction_at n (floats_at (interaction_count n) block.now at) (q / 8) (q % 8))) (replicate 64 f0)) }
-{
-    if reads_fractions(kind) {
-        return read_interactions(n, block, at, k_ij);
-    }
-    interactions_fit(n, block, at)
-}
-
-pub fn read_fractions(kind: u64, n: usize, block: &[u8], at: usize, x: &mut [f64; 8]) -> bool
-    requires { (n ≤ 8) × (at + 8 * n ≤ length block.now) × (x.old ≡ replicate 8 f0) }
-    ensures { (result ≡ fractions_fit n (floats_at (fraction_count kind n) block.now at)) × (result ≡ true → x.new ≡ tabulate 8 (λ i. at_row (floats_at (fraction_count kind n) block.now at) i)) }
-{
-    let count = fraction_count(kind, n);
-    let mut i: usize = 0;
-    while i < count {
-        let fraction = buf::get_f64(block, at + 8 * i);
-        if !fraction_fits(fraction) {
-            return false;
-        }
-        x[i] = fraction;
-        i += 1;
-    }
-    true
-}
-
-// The interactions that a kind searches with: those of the whole blend, or none.
 pub fn read_blend_interactions(
     kind: u64,
     n: usize,
@@ -161,25 +100,6 @@ fn keep_alone(row: &mut [f64; 8], i: usize)
     ensures { row.new ≡ alone (element_of row.old i) }
 {
     *row = [row[i], 0.0, 0.0, 0.0, 0.0, 0.0, 0.0, 0.0];
-}
-
-// Component i comes first and alone, with fraction 1.
-pub fn keep_component(
-    i: usize,
-    tc: &mut [f64; 8],
-    a: &mut [f64; 8],
-    b: &mut [f64; 8],
-    kappa: &mut [f64; 8],
-    x: &mut [f64; 8],
-)
-    requires { i < 8 }
-    ensures { (tc.new ≡ alone (element_of tc.old i)) × (a.new ≡ alone (element_of a.old i)) × (b.new ≡ alone (element_of b.old i)) × (kappa.new ≡ alone (element_of kappa.old i)) × (x.new ≡ alone f1) }
-{
-    keep_alone(tc, i);
-    keep_alone(a, i);
-    keep_alone(b, i);
-    keep_alone(kappa, i);
-    *x = [1.0, 0.0, 0.0, 0.0, 0.0, 0.0, 0.0, 0.0];
 }
 
 // Component i alone, with fraction 1.

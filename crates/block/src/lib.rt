@@ -8,8 +8,8 @@ mod pairs;
 mod types;
 
 pub use crate::blend::{
-    empty, keep_component, keep_component_alone, read_blend_components, read_blend_fractions,
-    read_blend_interactions, read_components, read_fractions, read_searched_interactions,
+    empty, keep_component_alone, read_blend_components, read_blend_fractions,
+    read_blend_interactions,
 };
 pub use crate::checks::{choice_fits, conditions_fit, is_plus_zero, positive, sum_fits};
 pub use crate::numbers::{conditions, reads_fractions};
