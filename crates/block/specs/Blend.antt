@@ -1,8 +1,8 @@
 -- The blend that the numbers of a request block describe. Definitions only.
 use Rattle.std.specs.Prelude.{ℕ, zero, suc, ◌+◌, ◌-◌, ◌*◌, ◌/◌, ◌%◌, cond, ◌&&◌, List, get_or, replicate, ltb, Float}
 use Rattle.std.specs.Float.{nan}
-use Rattle.float.specs.Ops.{f0}
-use Rattle.eos.specs.Cubic.{component_of}
+use Rattle.float.specs.Ops.{f0, f1}
+use Rattle.eos.specs.Cubic.{component_of, element_of, alone}
 use Rattle.eos.specs.declared.types.Component.{Component}
 use Rattle.eos.specs.declared.types.Blend.{Blend}
 use Rattle.block.specs.Lists.{tabulate}
@@ -60,6 +60,10 @@ with_interactions n row b = record b { k_ij = tabulate 64 (λ q. interaction_at 
 -- with the fractions of a row
 abbrev pub with_fractions : List Float → Blend → Blend
 with_fractions row b = record b { x = tabulate 8 (λ i. at row i) }
+
+-- with component i first and alone, of fraction 1
+abbrev pub with_component_alone : ℕ → Blend → Blend
+with_component_alone i b = record b { n = 1; tc = alone (element_of b.tc i); a = alone (element_of b.a i); b = alone (element_of b.b i); kappa = alone (element_of b.kappa i); x = alone f1 }
 
 -- no blend
 unfoldable pub empty_blend : Blend

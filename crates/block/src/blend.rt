@@ -1,10 +1,10 @@
 // The numbers of a blend, read from a block into one of zeros, each with its check: 12, 13 and 14.
 ghost use Rattle.std.specs.Prelude.{◌≡◌, ◌+◌, ◌-◌, ◌*◌, ◌/◌, ◌%◌, ◌≤◌, ◌<◌, true, cond, length, replicate};
 ghost use Rattle.float.specs.Ops.{f0};
-ghost use Rattle.eos.specs.Cubic.{element_of, alone, pure_of};
+ghost use Rattle.eos.specs.Cubic.{element_of, alone};
 ghost use Rattle.block.specs.Lists.{tabulate};
 ghost use Rattle.block.specs.Numbers.{floats_at, coefficient_count, interaction_count, reads_fractions, fraction_count};
-ghost use Rattle.block.specs.Blend.{interaction_at, empty_blend, with_components, with_interactions, with_fractions};
+ghost use Rattle.block.specs.Blend.{interaction_at, empty_blend, with_components, with_interactions, with_fractions, with_component_alone};
 ghost use Rattle.block.specs.Checks.{components_fit, interactions_fit, fractions_fit};
 
 use crate::checks::{component, finite_at, fraction_fits};
@@ -102,11 +102,10 @@ fn keep_alone(row: &mut [f64; 8], i: usize)
     *row = [row[i], 0.0, 0.0, 0.0, 0.0, 0.0, 0.0, 0.0];
 }
 
-// Component i alone, with fraction 1.
-#[tactic(auto, unfolding(eos::specs::Cubic::pure_of))]
+// Component i comes first and alone, with fraction 1. The interactions stay.
 pub fn keep_component_alone(i: usize, blend: &mut Blend)
-    requires { (i < 8) × (blend.old.k_ij ≡ replicate 64 f0) }
-    ensures { blend.new ≡ pure_of blend.old i }
+    requires { i < 8 }
+    ensures { blend.new ≡ with_component_alone i blend.old }
 {
     blend.n = 1;
     keep_alone(&mut blend.tc, i);

@@ -21,7 +21,7 @@ use Rattle.std.specs.declared.result.Result.{Result}
 use Rattle.block.specs.Lists.{tabulate}
 use Rattle.block.specs.Pairs.{offset_of, coefficients, interactions, fractions, conditions}
 use Rattle.block.specs.Numbers.{floats_at, reads_fractions, fraction_count, coefficient_count, interaction_count, conditions_of, numbers_of}
-use Rattle.block.specs.Blend.{at, empty_blend, with_components, with_interactions, with_fractions, blend_of}
+use Rattle.block.specs.Blend.{at, empty_blend, with_components, with_interactions, with_fractions, with_component_alone, blend_of}
 use Rattle.block.specs.Checks.{positive, components_fit, interactions_fit, fractions_fit, sum_fits, conditions_fit, choices, choice_fits}
 use Rattle.block.proofs.ReadLaws.{sum_row}
 use Rattle.block.proofs.NumberLaws.{numbers_rows}
@@ -147,9 +147,9 @@ module _ (kind choice : ℕ) (whole : Blend) where
   unfolding searched
   whole_searched t = rw t
 
-  pub alone_searched : (rows : Blend) → reads_fractions kind ≡ false → rows ≡ pure_of whole choice → rows ≡ searched kind choice whole
-  unfolding searched
-  alone_searched rows t e = rw t e
+  pub alone_searched : (rows : Blend) → reads_fractions kind ≡ false → whole.k_ij ≡ replicate 64 f0 → rows ≡ with_component_alone choice whole → rows ≡ searched kind choice whole
+  unfolding searched pure_of
+  alone_searched rows t k e = rw (t, ← k) e
 
 -- a component that may be chosen is one of eight
 pub choice_below : (kind n choice : ℕ) → n ≤ 8 → choice_fits kind n choice ≡ true → choice < 8

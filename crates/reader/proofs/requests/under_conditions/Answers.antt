@@ -17,11 +17,10 @@ returns-then-reads_fractions c =
     (whole_searched _ _ _ t) c.ready.ensures
 
 pub keep_component_alone-requires : goal.keep_component_alone-requires
-keep_component_alone-requires c =
-    (choice_below _ _ _ c.requires.0 (sym c.choice_fits.ensures ∙ not-false _ c.if-not-choice_fits.false-raw), c.requires.1 (sym c.reads_fractions.ensures ∙ c.if-reads_fractions.false))
+keep_component_alone-requires c = choice_below _ _ _ c.requires.0 (sym c.choice_fits.ensures ∙ not-false _ c.if-not-choice_fits.false-raw)
 
 pub returns : goal.returns
 returns c =
     let t = sym c.reads_fractions.ensures ∙ c.if-reads_fractions.false in
     passed_16 _ _ _ _ _ _ _ (sym c.conditions_fit.ensures ∙ not-false _ c.if-not-conditions_fit.false-raw) (sym c.choice_fits.ensures ∙ not-false _ c.if-not-choice_fits.false-raw) c.task-2.ensures
-    (alone_searched _ _ _ _ t c.keep_component_alone.ensures) c.ready-2.ensures
+    (alone_searched _ _ _ _ t (c.requires.1 t) c.keep_component_alone.ensures) c.ready-2.ensures
