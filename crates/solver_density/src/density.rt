@@ -248,7 +248,7 @@ fn unstable(blend: Blend, c: Conditions, rho: f64, error: f64) -> Ran
     }
 }
 
-// the rounds after the first evaluation, from `start` on
+// The rounds after the first evaluation, from `start` on. Not solver::rounds: a round may take a detour, with up to 61 evaluations more.
 fn iterate(blend: Blend, c: Conditions, rounds: u64, start: f64) -> Ran
     requires { rounds ≤ 50 }
     ensures { result ≡ run finite_of (evaluated blend) 1 (density_from c rounds start) }

@@ -19,7 +19,7 @@ pub fn phase_answer(phase: Phase) -> Answer
     solver_density::found_density(phase?)
 }
 
-// the next round, `left` being left with it
+// The next round, `left` being left with it. Not solver::onward: a density search ends with a density, and its rounds stand in the variant.
 fn slope_at(left: u64, rho: f64) -> Standing<DensitySpot>
     ensures { result ≡ slope_at left rho }
 {
