@@ -10,8 +10,7 @@ use Rattle.float.specs.Sign.{abs_of, negative_of, finite_of}
 use Rattle.evaluations.specs.declared.types.Pressure.{Pressure}
 use Rattle.evaluations.specs.declared.types.Criticality.{Criticality}
 use Rattle.evaluations.specs.declared.types.Stability.{Stability}
-use Rattle.linear.specs.declared.types.Solved.{Solved}
-use Rattle.linear.specs.declared.types.Solved.TheVariants.{Delta, ZeroPivot}
+use Rattle.linear.specs.Linear.{Solved}
 use Rattle.eos.specs.declared.types.Blend.{Blend}
 use Rattle.eos.specs.Cubic.{max_density}
 use Rattle.solver.specs.Decimals.{d1e_8}
@@ -171,8 +170,9 @@ of_stable maxdensity t p = of_bind (after_liquid maxdensity t p) (of_iteration m
     after_liquid_lem l = of_cond (lt p (maxdensity ⊗ t)) (of_bind (stable_phase t l) (of_iteration maxdensity t p Vapor) (of_phase t l)) Asks.ended
 
 -- ---- kinds 5 and 7
-of_tested6 : {s : Search} (y : Criticality) → Asks s → Asks (Critical.tested6 y s)
-of_tested6 y w = of_tested y.l (of_tested y.c2 (of_tested y.dl_d0 (of_tested y.dl_d1 (of_tested y.dc2_d0 (of_tested y.dc2_d1 w)))))
+of_each : {s : Search} (xs : List Float) → Asks s → Asks (Critical.tested_each xs s)
+of_each [] w = w
+of_each (x ∷ xs) w = of_tested x (of_each xs w)
 
 of_else : {s : Search} (a : Answer) → Asks s → Asks (Critical.or_else s a)
 unfolding Critical.or_else
@@ -182,13 +182,13 @@ of_else (Err r) w = w
 module _ (maxdensity : Float) where
   of_solve : (p : Point) (y : Criticality) (s : Solved) (again : Point → Search) → ((p : Point) → Asks (again p)) → Asks (Critical.after_solve maxdensity p y s again)
   unfolding Critical.after_solve
-  of_solve p y (Delta δt δρ) again h = of_tested _ (of_tested _ (of_cond (Critical.converged y) Asks.ended (h _)))
-  of_solve p y ZeroPivot again h = Asks.ended
+  of_solve p y (Ok δ) again h = of_tested _ (of_tested _ (of_cond (Critical.converged y) Asks.ended (h _)))
+  of_solve p y (Err e) again h = Asks.ended
 
   hkm_from_lem : (n : ℕ) (p : Point) → Asks (Critical.hkm_from maxdensity n p)
   unfolding Critical.hkm_from Critical.after_conditions
   hkm_from_lem zero p = Asks.ended
-  hkm_from_lem (suc n) p = asked refl (λ y. of_tested6 y (of_solve p y (Critical.solved y) (Critical.hkm_from maxdensity n) (hkm_from_lem n)))
+  hkm_from_lem (suc n) p = asked refl (λ y. of_each (Critical.entries y) (of_solve p y (Critical.solved y) (Critical.hkm_from maxdensity n) (hkm_from_lem n)))
 
   of_hkm : (t ρ : Float) → Asks (Critical.critical_point_hkm maxdensity t ρ)
   unfolding Critical.critical_point_hkm
@@ -227,13 +227,13 @@ module _ (maxdensity t : Float) where
 module _ (maxdensity : Float) where
   of_solve_t : (p : Densities) (y : Criticality) (s : Solved) (again : Densities → Search) → ((p : Densities) → Asks (again p)) → Asks (after_solve_t maxdensity p y s again)
   unfolding after_solve_t
-  of_solve_t p y (Delta δ0 δ1) again h = of_tested _ (of_tested _ (of_cond (Critical.converged y) Asks.ended (h _)))
-  of_solve_t p y ZeroPivot again h = Asks.ended
+  of_solve_t p y (Ok δ) again h = of_tested _ (of_tested _ (of_cond (Critical.converged y) Asks.ended (h _)))
+  of_solve_t p y (Err e) again h = Asks.ended
 
   rounds_t : (t : Float) (n : ℕ) (p : Densities) → Asks (rounds (query_t t) (after_conditions_t maxdensity) n p)
   unfolding rounds after_conditions_t
   rounds_t t zero p = Asks.ended
-  rounds_t t (suc n) p = asked refl (λ (y : Criticality). of_tested6 y (of_solve_t p y (Critical.solved y) (rounds (query_t t) (after_conditions_t maxdensity) n) (rounds_t t n)))
+  rounds_t t (suc n) p = asked refl (λ (y : Criticality). of_each (Critical.entries y) (of_solve_t p y (Critical.solved y) (rounds (query_t t) (after_conditions_t maxdensity) n) (rounds_t t n)))
 
   of_temperature : (z0 z1 t : Float) (density : Option Float) → Asks (critical_point_binary_t maxdensity z0 z1 t density)
   unfolding critical_point_binary_t

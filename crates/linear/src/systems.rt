@@ -93,7 +93,7 @@ fn eliminate3(m: [[f64; 3]; 3], r: [f64; 3]) -> Result<[f64; 3], ZeroPivot>
     Ok([x, y, z])
 }
 
-// The unknowns of m with the right side r. The pivot's row is swapped to the top in a copy.
+// The unknowns of m with the right side r: one pivot step, and what is left is `solve`'s, so no loop over columns is shared.
 pub fn solve3(mut m: [[f64; 3]; 3], mut r: [f64; 3]) -> Result<[f64; 3], ZeroPivot>
     ensures { result ≡ solve3_of m r }
 {

@@ -1,27 +1,25 @@
 -- Kinds 8 and 9: the floats of a search's first state and of each later one are values of binary64, as in kinds 5 to 7. Assumes nothing.
-use Rattle.std.proofs.Common.{ℕ, zero, suc, eqb}
+use Rattle.std.proofs.Common.{ℕ, zero, suc, eqb, List, [], ◌∷◌}
 use lib.Ieee.{Float, binary64}
 use lib.Ieee.Bits.{of_bits-fits}
 use lib.Ieee.Fits.{add-fits, sub-fits, mul-fits}
 use Rattle.evaluations.specs.declared.types.Criticality.{Criticality}
 use Rattle.evaluations.specs.declared.types.PressureCriticality.{PressureCriticality}
-use Rattle.linear.specs.declared.types.Solved.{Solved}
-use Rattle.linear.specs.declared.types.Solved.TheVariants.{Delta, ZeroPivot}
-use Rattle.linear.specs.declared.types.Solved3.{Solved3}
-use Rattle.linear.specs.declared.types.Solved3.TheVariants as Three
+use Rattle.std.specs.Prelude.{Ok, Err}
+use Rattle.linear.specs.Linear.{Solved}
 use Rattle.solver.specs.Answer.{values_of}
 use Rattle.solver.specs.Stored.{ended_numbers}
 use Rattle.solver.specs.Search.{Evaluator}
 use Rattle.std.specs.declared.option.Option.{Option}
 use Rattle.std.specs.declared.option.Option.TheVariants.{None, Some}
-use Rattle.solver_critical.specs.CriticalPoint.{solved, converged}
-use Rattle.solver_critical.specs.Rounds.{both_finite, finite6}
+use Rattle.solver_critical.specs.CriticalPoint.{part, entries, solved, converged}
+use Rattle.solver_critical.specs.Rounds.{all_finite}
 use Rattle.solver_binary.specs.declared.types.Densities.{Densities}
 use Rattle.solver_binary.specs.declared.types.Unknowns.{Unknowns}
 use Rattle.solver.specs.Answer.{Progress}
 use Rattle.std.specs.declared.ops.ControlFlow.TheVariants.{Break, Continue}
 use Rattle.solver_binary.specs.CriticalPointBinary.{start_densities, answer_t, reduced_t, step_t, start_temperature, start_unknowns, answer_p, reduced_p, step_p, solved_p, converged_p}
-use Rattle.solver_binary.specs.Rounds.{stepped_t, solved_round_t, round_t, finite3, finite12, stepped_p, solved_round_p, round_p}
+use Rattle.solver_binary.specs.Rounds.{stepped_t, solved_round_t, round_t, finite12, stepped_p, solved_round_p, round_p}
 use Rattle.solver_binary_step.specs.declared.types.TemperatureSpot.{TemperatureSpot}
 use Rattle.solver_binary_step.specs.declared.types.PressureSpot.{PressureSpot}
 use Rattle.solver_binary_step.specs.BinaryStep.{temperature_on, temperature_begin, temperature_at, temperature_next, pressure_on, pressure_begin, pressure_at, pressure_next}
@@ -38,23 +36,23 @@ abbrev HeldT : Progress Densities → Type 0
 HeldT (Break a) = AnswerHeld a
 HeldT (Continue p) = Two p.rho0 p.rho1
 
-step_held_t : (maxdensity : Float) (p δ : Densities) → Two (step_t maxdensity p δ).rho0 (step_t maxdensity p δ).rho1
+step_held_t : (maxdensity : Float) (p : Densities) (δ : List Float) → Two (step_t maxdensity p δ).rho0 (step_t maxdensity p δ).rho1
 unfolding step_t
 step_held_t maxdensity p δ =
     let δ' = reduced_t maxdensity δ in
-    two (floored_held maxdensity _ (sub-fits binary64 p.rho0 δ'.rho0)) (floored_held maxdensity _ (sub-fits binary64 p.rho1 δ'.rho1))
+    two (floored_held maxdensity _ (sub-fits binary64 p.rho0 (part δ' 0))) (floored_held maxdensity _ (sub-fits binary64 p.rho1 (part δ' 1)))
 
 solved_held_t : (maxdensity : Float) (p : Densities) (y : Criticality) (s : Solved) → HeldT (solved_round_t maxdensity p y s)
 unfolding solved_round_t stepped_t answer_t values_of
-solved_held_t maxdensity p y (Delta δ0 δ1) =
-    let p' = step_t maxdensity p (record { rho0 = δ0; rho1 = δ1 }) in
-    let h = step_held_t maxdensity p (record { rho0 = δ0; rho1 = δ1 }) in
-    cond_keeps HeldT (both_finite p'.rho0 p'.rho1) _ _ (cond_keeps HeldT (converged y) _ _ h h) none
-solved_held_t maxdensity p y ZeroPivot = none
+solved_held_t maxdensity p y (Ok δ) =
+    let p' = step_t maxdensity p δ in
+    let h = step_held_t maxdensity p δ in
+    cond_keeps HeldT (all_finite (p'.rho0 ∷ p'.rho1 ∷ [])) _ _ (cond_keeps HeldT (converged y) _ _ h h) none
+solved_held_t maxdensity p y (Err e) = none
 
 round_held_t : (maxdensity : Float) (p : Densities) (y : Criticality) → HeldT (round_t maxdensity p y)
 unfolding round_t values_of
-round_held_t maxdensity p y = cond_keeps HeldT (finite6 y) _ _ (solved_held_t maxdensity p y (solved y)) none
+round_held_t maxdensity p y = cond_keeps HeldT (all_finite (entries y)) _ _ (solved_held_t maxdensity p y (solved y)) none
 
 on_held_t : (n : ℕ) (o : Progress Densities) → HeldT o → ValuesStorable (temperature_numbers (temperature_on n o)).values
 unfolding temperature_on temperature_numbers spot_numbers ended_numbers values_of
@@ -86,19 +84,19 @@ abbrev HeldP : Progress Unknowns → Type 0
 HeldP (Break a) = AnswerHeld a
 HeldP (Continue p) = ThreeFit p.t p.rho0 p.rho1
 
-step_held_p : (maxdensity : Float) (p δ : Unknowns) → ThreeFit (step_p maxdensity p δ).t (step_p maxdensity p δ).rho0 (step_p maxdensity p δ).rho1
+step_held_p : (maxdensity : Float) (p : Unknowns) (δ : List Float) → ThreeFit (step_p maxdensity p δ).t (step_p maxdensity p δ).rho0 (step_p maxdensity p δ).rho1
 unfolding step_p
 step_held_p maxdensity p δ =
     let δ' = reduced_p maxdensity p.t δ in
-    three (sub-fits binary64 p.t δ'.t) (floored_held maxdensity _ (sub-fits binary64 p.rho0 δ'.rho0)) (floored_held maxdensity _ (sub-fits binary64 p.rho1 δ'.rho1))
+    three (sub-fits binary64 p.t (part δ' 0)) (floored_held maxdensity _ (sub-fits binary64 p.rho0 (part δ' 1))) (floored_held maxdensity _ (sub-fits binary64 p.rho1 (part δ' 2)))
 
-solved_held_p : (maxdensity : Float) (p : Unknowns) (y : PressureCriticality) (s : Solved3) → HeldP (solved_round_p maxdensity p y s)
+solved_held_p : (maxdensity : Float) (p : Unknowns) (y : PressureCriticality) (s : Solved) → HeldP (solved_round_p maxdensity p y s)
 unfolding solved_round_p stepped_p answer_p values_of
-solved_held_p maxdensity p y (Three.Delta δt δ0 δ1) =
-    let p' = step_p maxdensity p (record { t = δt; rho0 = δ0; rho1 = δ1 }) in
-    let h = step_held_p maxdensity p (record { t = δt; rho0 = δ0; rho1 = δ1 }) in
-    cond_keeps HeldP (finite3 p'.t p'.rho0 p'.rho1) _ _ (cond_keeps HeldP (converged_p y) _ _ h h) none
-solved_held_p maxdensity p y Three.ZeroPivot = none
+solved_held_p maxdensity p y (Ok δ) =
+    let p' = step_p maxdensity p δ in
+    let h = step_held_p maxdensity p δ in
+    cond_keeps HeldP (all_finite (p'.t ∷ p'.rho0 ∷ p'.rho1 ∷ [])) _ _ (cond_keeps HeldP (converged_p y) _ _ h h) none
+solved_held_p maxdensity p y (Err e) = none
 
 round_held_p : (maxdensity : Float) (p : Unknowns) (y : PressureCriticality) → HeldP (round_p maxdensity p y)
 unfolding round_p values_of

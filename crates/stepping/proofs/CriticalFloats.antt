@@ -1,6 +1,6 @@
 -- Kinds 5 to 7: the floats of a search's first state and of each later one are values of binary64. What an evaluation yields need not be one, since
 -- each float that is stored is an operation's result, the larger of two, or was stored before. Assumes nothing.
-use Rattle.std.proofs.Common.{ℕ, zero, suc, ◌||◌, eqb, ltb, length}
+use Rattle.std.proofs.Common.{ℕ, zero, suc, ◌||◌, eqb, ltb, List, [], ◌∷◌, length}
 use lib.Ieee.{Float, binary64, is_nan, lt}
 use lib.Ieee.Bits.{of_bits-fits}
 use lib.Ieee.Fits.{cond-fits, sub-fits, mul-fits}
@@ -8,8 +8,7 @@ use Rattle.float.specs.Ops.{◌⊗◌, f0}
 use Rattle.float.specs.Sign.{max_of, abs_of, finite_of}
 use Rattle.evaluations.specs.declared.types.Criticality.{Criticality}
 use Rattle.evaluations.specs.declared.types.Stability.{Stability}
-use Rattle.linear.specs.declared.types.Solved.{Solved}
-use Rattle.linear.specs.declared.types.Solved.TheVariants.{Delta, ZeroPivot}
+use Rattle.linear.specs.Linear.{Solved}
 use Rattle.solver.specs.Decimals.{d1e_4, d1e_5, d1e_8}
 use Rattle.solver.specs.Answer.{Answer}
 use Rattle.std.specs.Prelude.{Ok, Err}
@@ -22,9 +21,9 @@ use Rattle.std.specs.declared.option.Option.TheVariants.{None, Some}
 use Rattle.solver_critical.specs.declared.types.Point.{Point}
 use Rattle.solver.specs.Answer.{Progress}
 use Rattle.std.specs.declared.ops.ControlFlow.TheVariants.{Break, Continue}
-use Rattle.solver_critical.specs.CriticalPoint.{critical_answer, floored, newton_step, reduced_step, solved, converged, trial_temperatures, trial_temperature, start_density}
+use Rattle.solver_critical.specs.CriticalPoint.{critical_answer, floored, part, newton_step, reduced_step, entries, solved, converged, trial_temperatures, trial_temperature, start_density}
 use Rattle.solver_critical.specs.Spinodal.{spinodal_answer, both_answer, spinodal_start, liquid_start, stability_step}
-use Rattle.solver_critical.specs.Rounds.{both_finite, finite6, stepped_round, solved_round, critical_round, stability_round}
+use Rattle.solver_critical.specs.Rounds.{all_finite, stepped_round, solved_round, critical_round, stability_round}
 use Rattle.solver_critical_step.specs.declared.types.CriticalSpot.{CriticalSpot}
 use Rattle.solver_critical_step.specs.declared.types.CriticalSpot.TheVariants.{Given, Trial}
 use Rattle.solver_critical_step.specs.declared.types.SpinodalsSpot.{SpinodalsSpot}
@@ -65,11 +64,11 @@ unfolding floored
 floored_held maxdensity ρ h = max_held ρ (d1e_4 ⊗ maxdensity) h (mul-fits binary64 d1e_4 maxdensity)
 
 -- the point after a Newton step: a difference, and a difference with its floor
-newton_held : (maxdensity : Float) (p δ : Point) → Two (newton_step maxdensity p δ).t (newton_step maxdensity p δ).rho
+newton_held : (maxdensity : Float) (p : Point) (δ : List Float) → Two (newton_step maxdensity p δ).t (newton_step maxdensity p δ).rho
 unfolding newton_step
 newton_held maxdensity p δ =
     let δ' = reduced_step maxdensity p.t δ in
-    two (sub-fits binary64 p.t δ'.t) (floored_held maxdensity _ (sub-fits binary64 p.rho δ'.rho))
+    two (sub-fits binary64 p.t (part δ' 0)) (floored_held maxdensity _ (sub-fits binary64 p.rho (part δ' 1)))
 
 stability_step_held : (maxdensity ρ : Float) (y : Stability) → Fit (stability_step maxdensity ρ y)
 unfolding stability_step
@@ -85,22 +84,22 @@ StableHeld (Continue ρ) = Fit ρ
 
 solved_held : (maxdensity : Float) (p : Point) (y : Criticality) (s : Solved) → RoundHeld (solved_round maxdensity p y s)
 unfolding solved_round stepped_round critical_answer values_of
-solved_held maxdensity p y (Delta δt δρ) =
-    let p' = newton_step maxdensity p (record { t = δt; rho = δρ }) in
-    let h = newton_held maxdensity p (record { t = δt; rho = δρ }) in
-    cond_keeps RoundHeld (both_finite p'.t p'.rho) _ _ (cond_keeps RoundHeld (converged y) _ _ h h) none
-solved_held maxdensity p y ZeroPivot = none
+solved_held maxdensity p y (Ok δ) =
+    let p' = newton_step maxdensity p δ in
+    let h = newton_held maxdensity p δ in
+    cond_keeps RoundHeld (all_finite (p'.t ∷ p'.rho ∷ [])) _ _ (cond_keeps RoundHeld (converged y) _ _ h h) none
+solved_held maxdensity p y (Err e) = none
 
 round_held : (maxdensity : Float) (p : Point) (y : Criticality) → RoundHeld (critical_round maxdensity p y)
 unfolding critical_round values_of
-round_held maxdensity p y = cond_keeps RoundHeld (finite6 y) _ _ (solved_held maxdensity p y (solved y)) none
+round_held maxdensity p y = cond_keeps RoundHeld (all_finite (entries y)) _ _ (solved_held maxdensity p y (solved y)) none
 
 stable_held : (maxdensity ρ : Float) (y : Stability) → StableHeld (stability_round maxdensity ρ y)
 unfolding stability_round spinodal_answer values_of
 stable_held maxdensity ρ y =
     let ρ' = stability_step maxdensity ρ y in
     let h = stability_step_held maxdensity ρ y in
-    cond_keeps StableHeld (both_finite y.f y.df) _ _ (cond_keeps StableHeld (finite_of ρ') _ _ (cond_keeps StableHeld (lt (abs_of y.f) d1e_8) _ _ (two h zero_fits) h) none) none
+    cond_keeps StableHeld (all_finite (y.f ∷ y.df ∷ [])) _ _ (cond_keeps StableHeld (finite_of ρ') _ _ (cond_keeps StableHeld (lt (abs_of y.f) d1e_8) _ _ (two h zero_fits) h) none) none
 
 -- ---- kinds 5 and 7
 abbrev CriticalHeld : Progress CriticalSpot → Type 0
