@@ -6,6 +6,7 @@ use crate::types::Outcome;
 use reader::{Job, Task};
 use solver::{Ran, Values};
 
+#[tactic(auto, unfolding(crate::specs::Outcome::refused_end))]
 fn refused(number: u64) -> Outcome
     ensures { result ≡ refused_end number }
 {
@@ -21,20 +22,21 @@ fn refused(number: u64) -> Outcome
     }
 }
 
-fn ended(ran: Ran) -> Outcome
-    ensures { result ≡ search_end ran }
-{
-    let answer = ran.answer;
-    let status = solver::status(answer);
-    let values = solver::values(answer);
-    Outcome {
-        status,
-        values,
-        evaluations: ran.evaluations,
+impl From<Ran> for Outcome {
+    ghost from_gives = { λ ran outcome. outcome ≡ search_end ran };
+
+    #[tactic(auto, unfolding(crate::specs::Outcome::search_end))]
+    fn from(ran: Ran) -> Outcome {
+        Outcome {
+            status: solver::status(ran.answer),
+            values: solver::values(ran.answer),
+            evaluations: ran.evaluations,
+        }
     }
 }
 
 // Runs the job's search to its end.
+#[tactic(auto, unfolding(crate::specs::Outcome::outcome_of, crate::specs::Outcome::course_of, crate::specs::Outcome::end_of))]
 pub fn run_job(job: Job) -> Outcome
     ensures { result ≡ outcome_of job }
 {
@@ -45,26 +47,31 @@ pub fn run_job(job: Job) -> Outcome
     };
     match task {
         Task::DensityIteration(temperature, pressure, initial) => {
-            ended(solver_density::density_iteration(blend, temperature, pressure, initial))
+            Outcome::from(solver_density::density_iteration(blend, temperature, pressure, initial))
         }
         Task::DensityIterationStable(temperature, pressure) => {
-            ended(solver_density::density_iteration_stable(blend, temperature, pressure))
+            Outcome::from(solver_density::density_iteration_stable(blend, temperature, pressure))
         }
         Task::PressureSpinodal(temperature, start) => {
-            ended(solver_density::pressure_spinodal(blend, temperature, start))
+            Outcome::from(solver_density::pressure_spinodal(blend, temperature, start))
         }
         Task::PressureSpinodalBranch(temperature, branch) => {
-            ended(solver_density::pressure_spinodal_branch(blend, temperature, branch))
+            Outcome::from(solver_density::pressure_spinodal_branch(blend, temperature, branch))
         }
         Task::CriticalPoint(temperature, density) => {
-            ended(solver_critical::critical_point(blend, temperature, density))
+            Outcome::from(solver_critical::critical_point(blend, temperature, density))
         }
-        Task::Spinodal(temperature) => ended(solver_critical::spinodal(blend, temperature)),
+        Task::Spinodal(temperature) => Outcome::from(solver_critical::spinodal(blend, temperature)),
         Task::CriticalPointBinaryT(temperature, density) => {
-            ended(solver_binary::critical_point_binary_t(blend, temperature, density))
+            Outcome::from(solver_binary::critical_point_binary_t(blend, temperature, density))
         }
         Task::CriticalPointBinaryP(pressure, temperature, density) => {
-            ended(solver_binary::critical_point_binary_p(blend, pressure, temperature, density))
+            Outcome::from(solver_binary::critical_point_binary_p(
+                blend,
+                pressure,
+                temperature,
+                density,
+            ))
         }
     }
 }

@@ -1,5 +1,5 @@
 // A whole job answered at once.
-ghost use Rattle.std.specs.Prelude.{◌≡◌, cond, length, Ok, Err};
+ghost use Rattle.std.specs.Prelude.{◌≡◌, length};
 ghost use Rattle.records.specs.Answered.{number_of, answered, fits as fits_of};
 
 use crate::outcomes::run_job;
@@ -37,12 +37,7 @@ pub fn fits(kind: u64, n: u64, block: &[u8], record: &[u8]) -> Result<(), Unansw
 }
 
 // Runs the job of a request to its end and writes the sealed part of the record, bytes 16 to 63. A refusal changes nothing.
-pub fn answer(
-    kind: u64,
-    n: u64,
-    block: &[u8],
-    record: &mut [u8],
-) -> Result<(), Unanswered>
+pub fn answer(kind: u64, n: u64, block: &[u8], record: &mut [u8]) -> Result<(), Unanswered>
     ensures { (result ≡ (answered kind n block.now «record».old).answer) × («record».new ≡ (answered kind n block.now «record».old).bytes) }
 {
     fits(kind, n, block, record)?;
