@@ -1,14 +1,14 @@
 -- What the code of the calls does, over plain values: the range test, and a quarter that is lent and comes back. Assumes nothing.
 use mathlib.Core.Path.{◌≡◌, ap, ◌∙◌}
 use Prim.Native.Nat.{ℕ, zero, suc, ◌+◌, ◌-◌, ◌*◌, ◌≤◌, ◌<◌}
-use mathlib.Core.Bool.{Bool, true, false, cond, ◌&&◌}
+use mathlib.Core.Bool.{Bool, true, ◌&&◌}
 use mathlib.Core.List.{List}
 use native.Mathlib.Omega.{arith}
 use lib.ListN.{length, take, drop}
 use lib.Dec.{ltb, eqb}
 use borrow.Author.Tests.{ltb-true, eqb-true}
 use borrow.Rule.Slice.PartMut.{put_mid}
-use Rattle.buf.specs.Bytes.{splice, u64_at}
+use Rattle.buf.specs.Bytes.{u64_at}
 use Rattle.buf.proofs.Laws.{length_part, lent_part, lent_back}
 use Rattle.schedule.proofs.Tests.{left_true, right_true}
 use Rattle.board_spec.specs.Layout.{board_length, turn_at, accepted_at}

@@ -5,7 +5,6 @@ use Rattle.board_spec.specs.Board as Says
 use Rattle.board.specs.declared.types.Refusal.{Refusal}
 use Rattle.board.specs.declared.types.Refusal.TheVariants.{BadQueue, BadKind, BadCount, Full, ShortRecord, BadBoard, NotRunning, BadBlockLength}
 use Rattle.board.specs.declared.types.Reply.{Reply}
-use Rattle.board.specs.declared.types.Reply.TheVariants as Reply
 use Rattle.board.specs.declared.types.Shown.{Shown}
 
 unfoldable pub refusal_number : Refusal → ℕ

@@ -4,8 +4,6 @@ use Rattle.buf.specs.Bytes.{part, num_at, zeros}
 use Rattle.buf.proofs.Laws.{num_at_part, length_zeros}
 use Rattle.board_spec.specs.Board.{Answer, Refused, Ticket, Turned, Shown, Quoted}
 use Rattle.board_spec.specs.Run.{Bytes, did, reply_by}
-use Rattle.board.specs.declared.types.Told.{Told}
-use Rattle.board.specs.Answers.{answer_of}
 use Rattle.calls.specs.declared.types.Call.{Call}
 use Rattle.calls.specs.Calls.{call_with, call_of, call_fits}
 use Rattle.replay.specs.Replay.{ToldCall}
@@ -32,11 +30,11 @@ line_start (Turned answer) u v h = go (eqb answer 1) refl
 line_start (Shown evaluations density) u v h = refl
 line_start (Quoted turns) u v h = refl
 
-pub call_said : (s b b' w w' r' : Bytes) (c : Call) (t : Told) (end : ℕ) → call_fits (length s) c ≡ true → ToldCall b (zeros 256) (call_with s (part (zeros 256) 0) c) (answer_of t) b' r'
-    → Line w (line_for (answer_of t) r') w' end → SaidCall b w (call_of s c) b' w' end
+pub call_said : (s b b' w w' r' : Bytes) (c : Call) (a : Answer) (end : ℕ) → call_fits (length s) c ≡ true → ToldCall b (zeros 256) (call_with s (part (zeros 256) 0) c) a b' r'
+    → Line w (line_for a r') w' end → SaidCall b w (call_of s c) b' w' end
 unfolding reply_by
-call_said s b b' w w' r' c t end f h l =
-    let m : ToldCall b (zeros 256) (call_of s c) (answer_of t) b' r' = told_zeros s c f h in
-    let e : line_for (answer_of t) r' ≡ line_for (did b (call_of s c)).answer (did b (call_of s c)).buffer =
-    line_start (answer_of t) r' (did b (call_of s c)).buffer (record_start m (omega (arith, length_zeros 256))) ∙ ap (λ (a : Answer). line_for a (did b (call_of s c)).buffer) m.answer in
+call_said s b b' w w' r' c a end f h l =
+    let m : ToldCall b (zeros 256) (call_of s c) a b' r' = told_zeros s c f h in
+    let e : line_for a r' ≡ line_for (did b (call_of s c)).answer (did b (call_of s c)).buffer =
+    line_start a r' (did b (call_of s c)).buffer (record_start m (omega (arith, length_zeros 256))) ∙ ap (λ (x : Answer). line_for x (did b (call_of s c)).buffer) m.answer in
     record { board = m.board; line = rw e at l }

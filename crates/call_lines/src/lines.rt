@@ -4,7 +4,7 @@ ghost use Rattle.text.specs.Line.{number_text, newline};
 ghost use Rattle.board.specs.Answers.{answer_of};
 ghost use Rattle.call_lines.specs.Lines.{written_line, nothing_line, looked_line, line_for, Line};
 
-use board::Told;
+use board::{Refusal, Reply, Shown};
 
 // A word and a number.
 pub fn put_named(out: &mut [u8], word: &[u8], number: u64) -> usize
@@ -36,13 +36,13 @@ fn put_written(out: &mut [u8], record: &[u8]) -> usize
     text::put_number(out, b, queue, b'\n')
 }
 
-fn put_looked(out: &mut [u8], evaluations: u64, density: f64) -> usize
+fn put_looked(out: &mut [u8], shown: Shown) -> usize
     requires { 128 ≤ length out.old }
-    ensures { Line out.old (looked_line evaluations density) out.new result }
+    ensures { Line out.old (looked_line shown.evaluations shown.density) out.new result }
 {
-    let bits = float::to_bits(density);
+    let bits = float::to_bits(shown.density);
     buf::put_part(out, 0, b"looked ");
-    let a = text::put_number(out, 7, evaluations, b' ');
+    let a = text::put_number(out, 7, shown.evaluations, b' ');
     text::put_digits(out, a, 16, 16, bits);
     let end = a + 16;
     out[end] = b'\n';
@@ -50,20 +50,17 @@ fn put_looked(out: &mut [u8], evaluations: u64, density: f64) -> usize
 }
 
 // `record` is the record buffer after the call, and is read only where a record was written.
-pub fn put_told(out: &mut [u8], told: Told, record: &[u8]) -> usize
+#[tactic(auto, unfolding(crate::specs::Lines::line_for, crate::specs::Lines::refused_word, crate::specs::Lines::ticket_word, crate::specs::Lines::quoted_word, board::specs::Answers::answer_of))]
+pub fn put_told(out: &mut [u8], told: Result<Reply, Refusal>, record: &[u8]) -> usize
     requires { (128 ≤ length out.old) × (64 ≤ length «record».now) }
     ensures { Line out.old (line_for (answer_of told) «record».now) out.new result }
 {
     match told {
-        Told::Refused(number) => put_named(out, b"refused ", number),
-        Told::Ticket(ticket) => put_named(out, b"ticket ", ticket),
-        Told::Turned(answer) => {
-            if answer == 1 {
-                return put_written(out, record);
-            }
-            put_nothing(out)
-        }
-        Told::Shown(evaluations, density) => put_looked(out, evaluations, density),
-        Told::Quoted(turns) => put_named(out, b"quoted ", turns),
+        Ok(Reply::Ticket(ticket)) => put_named(out, b"ticket ", ticket),
+        Ok(Reply::Turned(true)) => put_written(out, record),
+        Ok(Reply::Turned(false)) => put_nothing(out),
+        Ok(Reply::Shown(shown)) => put_looked(out, shown),
+        Ok(Reply::Quoted(turns)) => put_named(out, b"quoted ", turns),
+        Err(refusal) => put_named(out, b"refused ", u64::from(refusal)),
     }
 }

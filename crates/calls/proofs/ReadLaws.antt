@@ -6,10 +6,10 @@ use mathlib.Core.List.{List}
 use Rattle.std.specs.Prelude.{Option, None, Some}
 use native.Mathlib.Omega.{arith}
 use lib.ListN.{length}
-use borrow.Author.Tests.{le-leb, lt-leb, eq-eqb, ne_eqb}
+use borrow.Author.Tests.{le-leb, lt-leb}
 use Rattle.buf.specs.Bytes.{u64_at}
 use Rattle.calls.specs.declared.types.Call as code_call
-use Rattle.calls.specs.Calls.{Placed, submit_at, turn_at, look_at, call_at, call_with, found_of, call_fits, found_fits}
+use Rattle.calls.specs.Calls.{Placed, submit_at, turn_at, look_at, call_with, found_of, call_fits, found_fits}
 
 abbrev pub Found : Type 0
 Found = Option (code_call.Call × ℕ)

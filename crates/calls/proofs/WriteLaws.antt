@@ -1,13 +1,10 @@
 -- The bytes of an answer. Assumes nothing.
 use mathlib.Core.Path.{◌≡◌}
-use Prim.Native.Nat.{ℕ, ◌≤◌, ◌<◌}
-use mathlib.Core.Bool.{cond}
+use Prim.Native.Nat.{ℕ, ◌<◌}
 use mathlib.Core.List.{List, []}
 use native.Mathlib.Omega.{arith}
-use lib.ListN.{length, take}
+use lib.ListN.{length}
 use lib.Seq.{take_all}
-use lib.Dec.{eqb}
-use borrow.Author.Tests.{ne_eqb}
 use Rattle.buf.specs.Bytes.{part, splice, put_u64, zeros}
 use Rattle.buf.proofs.Laws.{length_splice, length_put_num, length_zeros}
 use Rattle.board_spec.specs.Run.{Public, refusal, ticketed, turning, looking, quoting}

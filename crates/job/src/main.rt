@@ -1,6 +1,8 @@
 // One run of `jobs` in the gate.
 #![tactic(auto)]
 
-fn main() {
-    jobs::answer_input();
+use std::io;
+
+fn main(rt: HostRuntime) -> io::Result<()> {
+    jobs::answer_input(&rt)
 }

@@ -15,10 +15,14 @@ use Rattle.schedule.specs.Spans.{kind_fits, count_fits, span_of}
 use Rattle.schedule.specs.Schedule.{Verdict, accept, refuse, check, submit_verdict}
 use Rattle.schedule.proofs.Tests.{span_within}
 use Rattle.board_spec.specs.Layout.{board_length}
-use Rattle.board_spec.specs.Board.{Answer, submit_board, turn_board}
+use Rattle.board_spec.specs.Board.{Answer, Refused, Ticket, Turned, submit_board, turn_board}
 use Rattle.board_spec.specs.Run.{Bytes, zero_board, record_of}
 use Rattle.text.specs.Line.{newline, number_text, line_of}
-use Rattle.board.specs.Answers.{number_of}
+use Rattle.std.specs.Prelude.{Result, Ok, Err}
+use Rattle.std.specs.Result.{result_unwrap_or}
+use Rattle.board.specs.declared.types.Refusal.{Refusal}
+use Rattle.board.specs.declared.types.Refusal.TheVariants.{BadQueue, BadKind, BadCount, Full, ShortRecord, BadBoard, NotRunning, BadBlockLength}
+use Rattle.board.specs.Answers.{refusal_number, submitted_of, turned_of}
 use Rattle.replay.proofs.CallLaws.{splice_whole}
 use Rattle.jobs.specs.Line.{record_for, line_by, verdict_of, reply_of, refusal_by, record_by}
 use Rattle.jobs.proofs.Alone.{Alone, submit_refused, submit_accepted, Again, Last, turn_again, turn_last}
@@ -39,48 +43,74 @@ never_zero kind n block m e =
     (λ e₈. check_number (eqb (length block) 640) 8 m _ e₈ (λ z. omega arith)
     (λ e₄. check_number (ltb 0 8) 4 m accept e₄ (λ z. omega arith) (λ x. let z : ◌≡◌ {A = ℕ} 0 1 = cc in absurd (omega arith))))))
 
+-- nor a refusal's
+pub refusal_some : (e : Refusal) → refusal_number e ≡ 0 → ⊥
+unfolding refusal_number
+refusal_some BadQueue z = omega arith
+refusal_some BadKind z = omega arith
+refusal_some BadCount z = omega arith
+refusal_some Full z = omega arith
+refusal_some ShortRecord z = omega arith
+refusal_some BadBoard z = omega arith
+refusal_some NotRunning z = omega arith
+refusal_some BadBlockLength z = omega arith
+
+refused_is : (m k : ℕ) → Refused m ≡ Refused k → m ≡ k
+refused_is m k e = cc
+
 -- what is known after a submit to the cleared board
-module _ (kind n : ℕ) (block b₁ b₂ : Bytes) (m number : ℕ) (a : Answer) (lm : m ≡ board_length) (cleared : b₁ ≡ zeros m) (ea : a ≡ (submit_board b₁ 0 kind n block).answer)
-    (eb : b₂ ≡ (submit_board b₁ 0 kind n block).board) (en : number ≡ number_of a) where
+module _ (kind n : ℕ) (block b₁ b₂ : Bytes) (m : ℕ) (r : Result ℕ Refusal) (lm : m ≡ board_length) (cleared : b₁ ≡ zeros m) (ea : submitted_of r ≡ (submit_board b₁ 0 kind n block).answer)
+    (eb : b₂ ≡ (submit_board b₁ 0 kind n block).board) where
   fresh_board : b₁ ≡ zero_board
   unfolding zero_board
   fresh_board = cleared ∙ ap zeros lm
 
-  answer_is : a ≡ (submit_board zero_board 0 kind n block).answer
+  answer_is : submitted_of r ≡ (submit_board zero_board 0 kind n block).answer
   answer_is = ea ∙ ap (λ (x : Bytes). (submit_board x 0 kind n block).answer) fresh_board
 
   board_is : b₂ ≡ (submit_board zero_board 0 kind n block).board
   board_is = eb ∙ ap (λ (x : Bytes). (submit_board x 0 kind n block).board) fresh_board
 
-  pub run_refused : (r : Bytes) → (number ≡ 0 → ⊥) → (number ≡ refusal_by (verdict_of kind n block)) × (r ≡ record_by kind n block r (verdict_of kind n block))
-  unfolding refusal_by record_by number_of
-  run_refused r h = go (verdict_of kind n block) refl
+  pub run_refused : (e : Refusal) (w : Bytes) → r ≡ Err e → (refusal_number e ≡ refusal_by (verdict_of kind n block)) × (w ≡ record_by kind n block w (verdict_of kind n block))
+  unfolding refusal_by record_by submitted_of
+  run_refused e w d = go (verdict_of kind n block) refl
     where
-      go : (v : Verdict) → verdict_of kind n block ≡ v → (number ≡ refusal_by v) × (r ≡ record_by kind n block r v)
-      go accept e = absurd (h (en ∙ ap number_of (answer_is ∙ (submit_accepted kind n block e).answer)))
-      go (refuse m) e = (en ∙ ap number_of (answer_is ∙ submit_refused kind n block m e), refl)
+      said : Refused (refusal_number e) ≡ (submit_board zero_board 0 kind n block).answer
+      said = rw d at answer_is
 
-  pub run_begun : number ≡ 0 → (verdict_of kind n block ≡ accept) × Alone kind n block 0 b₂
-  unfolding number_of
-  run_begun h = go (verdict_of kind n block) refl
+      go : (v : Verdict) → verdict_of kind n block ≡ v → (refusal_number e ≡ refusal_by v) × (w ≡ record_by kind n block w v)
+      go accept x = let y : Refused (refusal_number e) ≡ Ticket 0 = said ∙ (submit_accepted kind n block x).answer in let z : ◌≡◌ {A = ℕ} 0 1 = cc in absurd (omega arith)
+      go (refuse k) x = (refused_is _ _ (said ∙ submit_refused kind n block k x), refl)
+
+  pub run_begun : (t : ℕ) → r ≡ Ok t → (verdict_of kind n block ≡ accept) × Alone kind n block 0 b₂
+  unfolding submitted_of
+  run_begun t d = go (verdict_of kind n block) refl
     where
+      said : Ticket t ≡ (submit_board zero_board 0 kind n block).answer
+      said = rw d at answer_is
+
       go : (v : Verdict) → verdict_of kind n block ≡ v → (v ≡ accept) × Alone kind n block 0 b₂
-      go accept e = (refl, rw board_is (submit_accepted kind n block e).alone)
-      go (refuse m) e = absurd (never_zero kind n block m e (sym (en ∙ ap number_of (answer_is ∙ submit_refused kind n block m e)) ∙ h))
+      go accept x = (refl, rw board_is (submit_accepted kind n block x).alone)
+      go (refuse k) x = let y : Ticket t ≡ Refused k = said ∙ submit_refused kind n block k x in let z : ◌≡◌ {A = ℕ} 0 1 = cc in absurd (omega arith)
 
 -- ---- the turns
 
-module _ (kind n : ℕ) (block : Bytes) (made : ℕ) (b b' r r' : Bytes) (a : Answer) (x : ℕ) (al : Alone kind n block made b) (h : 64 ≤ length r) (ea : a ≡ (turn_board b r).answer)
-    (eb : b' ≡ (turn_board b r).board) (er : r' ≡ (turn_board b r).buffer) (ex : x ≡ number_of a) where
-  early_is : Again kind n block made b r → x ≡ 0
-  unfolding number_of
-  early_is g = ex ∙ ap number_of (ea ∙ g.answer)
+-- whether a record was written, a refusal taken for none
+pub turned_true : (r : Result Bool Refusal) (w : Bool) → w ≡ result_unwrap_or r false → w ≡ true → turned_of r ≡ Turned 1
+unfolding turned_of
+turned_true (Ok true) w e t = refl
+turned_true (Ok false) w e t = let x : false ≡ true = sym e ∙ t in let z : ◌≡◌ {A = ℕ} 0 1 = cc in absurd (omega arith)
+turned_true (Err refusal) w e t = let x : false ≡ true = sym e ∙ t in let z : ◌≡◌ {A = ℕ} 0 1 = cc in absurd (omega arith)
 
-  last_is : Last kind n block b r → x ≡ 1
-  unfolding number_of
-  last_is g = ex ∙ ap number_of (ea ∙ g.answer)
+pub turned_false : (r : Result Bool Refusal) (w : Bool) → w ≡ result_unwrap_or r false → w ≡ false → turned_of r ≡ Turned 1 → ⊥
+unfolding turned_of
+turned_false (Ok true) w e f a = let x : true ≡ false = sym e ∙ f in let z : ◌≡◌ {A = ℕ} 0 1 = cc in omega arith
+turned_false (Ok false) w e f a = let z : ◌≡◌ {A = ℕ} 0 1 = cc in omega arith
+turned_false (Err refusal) w e f a = let z : ◌≡◌ {A = ℕ} 0 1 = cc in omega arith
 
-  run_written : x ≡ 1 → verdict_of kind n block ≡ accept → (0 ≡ refusal_by (verdict_of kind n block)) × (r' ≡ record_by kind n block r (verdict_of kind n block))
+module _ (kind n : ℕ) (block : Bytes) (made : ℕ) (b b' r r' : Bytes) (a : Answer) (al : Alone kind n block made b) (h : 64 ≤ length r) (ea : a ≡ (turn_board b r).answer)
+    (eb : b' ≡ (turn_board b r).board) (er : r' ≡ (turn_board b r).buffer) where
+  pub run_written : a ≡ Turned 1 → verdict_of kind n block ≡ accept → (0 ≡ refusal_by (verdict_of kind n block)) × (r' ≡ record_by kind n block r (verdict_of kind n block))
   unfolding refusal_by record_by
   run_written t v = rw v (refl, go (eqb made (4 * (span_of kind - 1))) refl)
     where
@@ -89,14 +119,15 @@ module _ (kind n : ℕ) (block : Bytes) (made : ℕ) (b b' r r' : Bytes) (a : An
       go false e =
           let d : made ≡ 4 * (span_of kind - 1) → ⊥ = eqb-false _ _ e in
           let k : made ≤ 4 * (span_of kind - 1) = al.early in
-          let f : x ≡ 0 = early_is (turn_again kind n block made b r al h (omega arith)) in
+          let f : Turned 0 ≡ Turned 1 = sym (ea ∙ (turn_again kind n block made b r al h (omega arith)).answer) ∙ t in
+          let z : ◌≡◌ {A = ℕ} 0 1 = cc in
           absurd (omega arith)
 
-  pub run_on : (x ≡ 1 → ⊥) → (r' ≡ r) × Alone kind n block (made + 1) b'
+  pub run_on : (a ≡ Turned 1 → ⊥) → (r' ≡ r) × Alone kind n block (made + 1) b'
   run_on f = go (eqb made (4 * (span_of kind - 1))) refl
     where
       go : (y : Bool) → eqb made (4 * (span_of kind - 1)) ≡ y → (r' ≡ r) × Alone kind n block (made + 1) b'
-      go true e = absurd (f (last_is (turn_last kind n block made b r al h (eqb-true _ _ e))))
+      go true e = absurd (f (ea ∙ (turn_last kind n block made b r al h (eqb-true _ _ e)).answer))
       go false e =
           let d : made ≡ 4 * (span_of kind - 1) → ⊥ = eqb-false _ _ e in
           let k : made ≤ 4 * (span_of kind - 1) = al.early in
@@ -104,12 +135,12 @@ module _ (kind n : ℕ) (block : Bytes) (made : ℕ) (b b' r r' : Bytes) (a : An
           (er ∙ g.buffer, rw eb g.alone)
 
 -- the same, where the record buffer is still r₀
-pub run_done : (kind n : ℕ) (block : Bytes) (made : ℕ) (b b' r₀ r r' : Bytes) (a : Answer) (x : ℕ) → Alone kind n block made b → 64 ≤ length r₀ → r ≡ r₀ → a ≡ (turn_board b r).answer
-    → b' ≡ (turn_board b r).board → r' ≡ (turn_board b r).buffer → x ≡ number_of a → x ≡ 1 → verdict_of kind n block ≡ accept
+pub run_done : (kind n : ℕ) (block : Bytes) (made : ℕ) (b b' r₀ r r' : Bytes) (a : Answer) → Alone kind n block made b → 64 ≤ length r₀ → r ≡ r₀ → a ≡ (turn_board b r).answer
+    → b' ≡ (turn_board b r).board → r' ≡ (turn_board b r).buffer → a ≡ Turned 1 → verdict_of kind n block ≡ accept
     → (0 ≡ refusal_by (verdict_of kind n block)) × (r' ≡ record_by kind n block r₀ (verdict_of kind n block))
-run_done kind n block made b b' r₀ r r' a x al h e ea eb er ex t v =
+run_done kind n block made b b' r₀ r r' a al h e ea eb er t v =
     let k : 64 ≤ length r = omega (arith, ap length e) in
-    let d = run_written kind n block made b b' r r' a x al k ea eb er ex t v in
+    let d = run_written kind n block made b b' r r' a al k ea eb er t v in
     (d.0, d.1 ∙ ap (λ (y : Bytes). record_by kind n block y (verdict_of kind n block)) e)
 
 -- the longest span has its last turn before the count ends

@@ -1,9 +1,11 @@
 -- The line that a request is answered with: its job is submitted to queue 0 of a fresh board and has its turns. Definitions only.
-use Rattle.std.specs.Prelude.{ℕ, length, get_or}
+use Rattle.std.specs.Prelude.{ℕ, length, get_or, Result, Ok, Err}
 use Rattle.buf.specs.Bytes.{part, splice}
 use Rattle.schedule.specs.Spans.{span_of}
 use Rattle.schedule.specs.Schedule.{Held, Verdict, accept, refuse, submit_verdict}
 use Rattle.board_spec.specs.Run.{Bytes, record_of}
+use Rattle.board.specs.declared.types.Refusal.{Refusal}
+use Rattle.board.specs.Answers.{refusal_number}
 use Rattle.text.specs.Line.{newline, number_text, line_of}
 
 -- the first job of its queue, with its turns had
@@ -28,6 +30,11 @@ unfoldable pub reply_of : Bytes → Bytes
 reply_of request = line_by (get_or request 0 0) (get_or request 1 0) (part request 2 640) (verdict_of (get_or request 0 0) (get_or request 1 0) (part request 2 640))
 
 -- ---- what the parts of the code do
+
+-- the number of a submit that was refused, else 0
+unfoldable pub refused_number : {T : Type 0} → Result T Refusal → ℕ
+refused_number (Ok t) = 0
+refused_number (Err refusal) = refusal_number refusal
 
 -- a refusal's number, else 0
 unfoldable pub refusal_by : Verdict → ℕ

@@ -1,6 +1,8 @@
 // One run of `call_lines` in the gate.
 #![tactic(auto)]
 
-fn main() {
-    call_lines::answer_input();
+use std::io;
+
+fn main(rt: HostRuntime) -> io::Result<()> {
+    call_lines::answer_input(&rt)
 }

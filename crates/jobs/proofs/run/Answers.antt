@@ -1,33 +1,36 @@
 -- `jobs::run`.
-use Rattle.jobs.proofs.JobLaws.{run_refused, run_begun, run_done, run_on, run_never}
+use Rattle.std.proofs.lemmas.Result.{err_from_is_err_and}
+use Rattle.jobs.specs.Line.{refused_number}
+use Rattle.jobs.proofs.JobLaws.{run_refused, run_begun, run_done, run_on, run_never, turned_true, turned_false}
 use lib.ListN.{length}
 use native.Mathlib.Omega.{arith}
-use mathlib.Core.Path.{refl, sym, ap, ◌∙◌}
+use mathlib.Core.Path.{refl, ap, ◌∙◌}
 use Rattle.jobs.proofs.run.Goals as goal
 
-pub returns-then-number-ne0 : goal.returns-then-number-ne0
-returns-then-number-ne0 c = run_refused _ _ _ _ _ _ _ _ c.requires.0 c.clear.ensures c.tell_submit.ensures.0 c.tell_submit.ensures.1 c.number-number.ensures _ c.if-number-ne0.true
+pub returns-in_err-submit : goal.returns-in_err-submit
+unfolding refused_number
+returns-in_err-submit c =
+    let p = err_from_is_err_and c.from_residual.result c.from_residual.ensures.1 in
+    rw (p.1, p.2) (run_refused _ _ _ _ _ _ _ c.requires.0 c.clear.ensures c.submit.ensures.0 c.submit.ensures.1 _ _ c.in_err-submit.was)
 
 pub loop-made-init : goal.loop-made-init
-loop-made-init c = let s = run_begun _ _ _ _ _ _ _ _ c.requires.0 c.clear.ensures c.tell_submit.ensures.0 c.tell_submit.ensures.1 c.number-number.ensures c.if-number-ne0.false in (omega arith, c.tell_submit.auto.board ∙ c.clear.auto.s ∙ c.requires.0, refl, s.0, s.1)
+loop-made-init c =
+    let s = run_begun _ _ _ _ _ _ _ c.requires.0 c.clear.ensures c.submit.ensures.0 c.submit.ensures.1 _ c.in_ok-submit.was in
+    (c.submit.auto.board ∙ c.clear.auto.s ∙ c.requires.0, refl, s.0, s.1)
 
-pub shape_of-board-then-number-eq1 : goal.shape_of-board-then-number-eq1
-shape_of-board-then-number-eq1 c = c.tell_turn.auto.board ∙ c.loop-made.invariant.1 ∙ sym c.requires.0
-
-pub shape_of-record-then-number-eq1 : goal.shape_of-record-then-number-eq1
-shape_of-record-then-number-eq1 c = c.tell_turn.auto.«record» ∙ ap length c.loop-made.invariant.2
-
-pub returns-then-number-eq1 : goal.returns-then-number-eq1
-returns-then-number-eq1 c = run_done _ _ _ _ _ _ _ _ _ _ _ c.loop-made.invariant.4 c.requires.1 c.loop-made.invariant.2 c.tell_turn.ensures.0 c.tell_turn.ensures.1 c.tell_turn.ensures.2 c.number.ensures c.if-number-eq1.true c.loop-made.invariant.3
+pub returns-then-written : goal.returns-then-written
+unfolding refused_number
+returns-then-written c =
+    let L = c.loop-made in
+    let t = turned_true c.turn.result _ c.unwrap_or-written.ensures c.if-written.true in
+    run_done _ _ _ _ _ _ _ _ _ _ L.invariant.3 c.requires.1 L.invariant.1 c.turn.ensures.0 c.turn.ensures.1 c.turn.ensures.2 t L.invariant.2
 
 pub loop-made-preserved : goal.loop-made-preserved
-loop-made-preserved c = let s = run_on _ _ _ _ _ _ _ _ _ _ c.loop-made.invariant.4 (omega (arith, c.requires.1, ap length c.loop-made.invariant.2)) c.tell_turn.ensures.0 c.tell_turn.ensures.1 c.tell_turn.ensures.2 c.number.ensures c.if-number-eq1.false in (omega arith, c.tell_turn.auto.board ∙ c.loop-made.invariant.1, s.0 ∙ c.loop-made.invariant.2, c.loop-made.invariant.3, s.1)
-
-pub shape_of-board : goal.shape_of-board
-shape_of-board c = c.loop-made.invariant.1 ∙ sym c.requires.0
-
-pub shape_of-record : goal.shape_of-record
-shape_of-record c = ap length c.loop-made.invariant.2
+loop-made-preserved c =
+    let L = c.loop-made in
+    let t = turned_false c.turn.result _ c.unwrap_or-written.ensures c.if-written.false in
+    let s = run_on _ _ _ _ _ _ _ _ _ L.invariant.3 (omega (arith, c.requires.1, ap length L.invariant.1)) c.turn.ensures.0 c.turn.ensures.1 c.turn.ensures.2 t in
+    (c.turn.auto.board ∙ L.invariant.0, s.0 ∙ L.invariant.1, L.invariant.2, s.1)
 
 pub returns : goal.returns
-returns c = absurd (run_never _ _ _ _ _ c.loop-made.invariant.4 c.loop-made-test.false)
+returns c = absurd (run_never _ _ _ _ _ c.loop-made.invariant.3 c.loop-made-test.false)

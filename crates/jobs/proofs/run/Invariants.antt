@@ -1,6 +1,5 @@
 -- `jobs::run`.
 use mathlib.Core.Path.{◌≡◌}
-use Prim.Native.Nat.{◌-◌, ◌≤◌}
 use lib.ListN.{length}
 use Rattle.schedule.specs.Schedule.{accept}
 use Rattle.jobs.specs.Line.{verdict_of}
@@ -9,7 +8,4 @@ use Rattle.jobs.proofs.run.Given as goal
 
 abbrev pub invariant-loop-made : goal.invariant-loop-made
 invariant-loop-made l =
-    (l.made ≤ 24816) × (length l.board ≡ 24584) × (l.«record» ≡ l.initial.«record») × (verdict_of l.kind l.n l.block ≡ accept) × Alone l.kind l.n l.block l.made l.board
-
-abbrev pub decreases-loop-made : goal.decreases-loop-made
-decreases-loop-made l = 24816 - l.made
+    (length l.board ≡ 24584) × (l.«record» ≡ l.initial.«record») × (verdict_of l.kind l.n l.block ≡ accept) × Alone l.kind l.n l.block l._made l.board

@@ -1,7 +1,5 @@
 -- `calls::writer::put_turned`.
 use lib.ListN.{length-take}
-use Rattle.buf.specs.Bytes.{part}
-use Rattle.calls.proofs.WriteLaws.{part_short}
 use native.Mathlib.Omega.{arith}
 use Rattle.calls.proofs.writer.put_turned.Goals as goal
 
