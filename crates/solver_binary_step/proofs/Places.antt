@@ -4,7 +4,7 @@ use Prim.Native.Nat.{ℕ, zero, suc, ◌-◌}
 use native.Mathlib.Omega.{arith}
 use Rattle.solver_binary.specs.declared.types.Densities.{Densities}
 use Rattle.solver_binary.specs.declared.types.Unknowns.{Unknowns}
-use Rattle.std.specs.declared.ops.ControlFlow.TheVariants.{Break, Continue}
+use Rattle.std.specs.declared.ops.ControlFlow.TheVariants.{Continue}
 use Rattle.solver_binary_step.specs.BinaryStep.{temperature_on, pressure_on}
 
 pub temperature_more : (n : ℕ) (p : Densities) → (n ≡ 0 → ⊥) → Continue (record { rounds = n - 1; p = p }) ≡ temperature_on n (Continue p)

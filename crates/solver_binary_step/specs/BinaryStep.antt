@@ -2,7 +2,7 @@
 use Rattle.std.specs.Prelude.{ℕ, zero, suc, Float}
 use Rattle.float.specs.Ops.{◌⊕◌}
 use Rattle.solver.specs.declared.types.Refusal.TheVariants.{NotConverged}
-use Rattle.std.specs.Prelude.{Ok, Err}
+use Rattle.std.specs.Prelude.{Err}
 use Rattle.solver.specs.Search.{Evaluator, Search, done}
 use Rattle.std.specs.declared.option.Option.{Option}
 use Rattle.solver.specs.Answer.{Progress}

@@ -4,7 +4,7 @@ use Prim.Native.Nat.{ℕ, zero, suc, ◌-◌}
 use native.Mathlib.Omega.{arith}
 use lib.Ieee.{Float}
 use Rattle.solver_critical.specs.declared.types.Point.{Point}
-use Rattle.std.specs.declared.ops.ControlFlow.TheVariants.{Break, Continue}
+use Rattle.std.specs.declared.ops.ControlFlow.TheVariants.{Continue}
 use Rattle.solver_critical_step.specs.CriticalStep.{hkm_on}
 use Rattle.solver_critical_step.specs.SpinodalsStep.{stability_on}
 

@@ -6,7 +6,7 @@ use Rattle.float.specs.Sign.{finite_of}
 use Rattle.std.specs.Prelude.{Ok, Err}
 use Rattle.solver.specs.Search.{Evaluator, Search, bind, on_found, and_then, settle, next_of, stability}
 use Rattle.solver.proofs.Steps.{settle_bind, moved, next_bind, settled}
-use Rattle.std.specs.declared.option.Option.TheVariants.{None, Some}
+use Rattle.std.specs.declared.option.Option.TheVariants.{None}
 use Rattle.solver.specs.Answer.{Progress}
 use Rattle.std.specs.declared.ops.ControlFlow.TheVariants.{Break, Continue}
 use Rattle.solver_critical.specs.CriticalPoint.{start_density, critical_point}

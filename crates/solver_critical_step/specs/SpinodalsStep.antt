@@ -4,7 +4,7 @@ use Rattle.solver.specs.declared.types.DensityInitialization.TheVariants.{Vapor}
 use Rattle.solver.specs.declared.types.Refusal.TheVariants.{Supercritical}
 use Rattle.std.specs.Prelude.{Ok, Err}
 use Rattle.solver.specs.Search.{Evaluator, Search, done, and_then, stability}
-use Rattle.std.specs.declared.option.Option.TheVariants.{None, Some}
+use Rattle.std.specs.declared.option.Option.TheVariants.{None}
 use Rattle.solver.specs.Answer.{Progress}
 use Rattle.std.specs.declared.ops.ControlFlow.TheVariants.{Break, Continue}
 use Rattle.solver_critical.specs.CriticalPoint.{start_density}

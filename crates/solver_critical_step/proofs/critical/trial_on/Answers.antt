@@ -1,5 +1,4 @@
 -- `solver_critical_step::critical::trial_on`.
-use Rattle.std.specs.Prelude.{Ok, Err}
 use Rattle.solver_critical_step.specs.CriticalStep.{trial_on}
 use Rattle.solver_critical_step.proofs.critical.trial_on.Goals as goal
 

@@ -1,5 +1,4 @@
 -- `solver_critical_step::spinodals::critical_on`.
-use Rattle.std.specs.Prelude.{Ok, Err}
 use Rattle.solver_critical_step.specs.SpinodalsStep.{critical_on}
 use Rattle.solver_critical_step.proofs.spinodals.critical_on.Goals as goal
 

@@ -1,5 +1,4 @@
 -- `solver_critical_step::spinodals::liquid_on`.
-use Rattle.std.specs.Prelude.{Ok, Err}
 use Rattle.solver_critical_step.specs.SpinodalsStep.{liquid_on}
 use Rattle.solver_critical_step.proofs.spinodals.liquid_on.Goals as goal
 

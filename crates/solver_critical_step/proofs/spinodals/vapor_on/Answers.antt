@@ -1,5 +1,4 @@
 -- `solver_critical_step::spinodals::vapor_on`.
-use Rattle.std.specs.Prelude.{Ok, Err}
 use Rattle.solver_critical_step.specs.SpinodalsStep.{vapor_on}
 use Rattle.solver_critical_step.proofs.spinodals.vapor_on.Goals as goal
 
