@@ -5,10 +5,10 @@ use mathlib.Core.Bool.{true}
 use mathlib.Core.List.{List, [], ◌∷◌, map}
 use native.Mathlib.Omega.{arith}
 use native.Mathlib.Nat.{sub-zero, zero-add}
-use lib.ListN.{length, set}
+use lib.ListN.{length}
 use borrow.Author.Tests.{eq-eqb, ne_eqb}
 use Rattle.buf.specs.Bytes.{splice, zeros}
-use Rattle.buf.proofs.Laws.{splice_append, splice_cons, splice_nil, length_zeros}
+use Rattle.buf.proofs.Laws.{splice_append, splice_nil}
 use Rattle.schedule.specs.Schedule.{Call}
 use Rattle.board_spec.specs.Layout.{board_length}
 use Rattle.board_spec.specs.Run.{Bytes, Calls, zero_board, did, board_after, reply_by, replies, Public, public_of}
@@ -16,7 +16,6 @@ use Rattle.board_spec.proofs.Runs.{public_told}
 use Rattle.calls.specs.declared.types.Call as code_call
 use Rattle.calls.specs.Calls.{Placed, call_at, before, calls_from, answer_bytes, answers_bytes, call_of, found_of, call_fits, found_fits}
 use Rattle.calls.proofs.WriteLaws.{length_answer}
-use Rattle.replay.proofs.CallLaws.{splice_whole}
 use Rattle.std.specs.Prelude.{Option, None, Some, Ok, Err}
 use Rattle.replay.specs.Replay.{calls_for, replayed, replay_did, MadeCall, MadeRun}
 

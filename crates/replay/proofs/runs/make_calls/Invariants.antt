@@ -1,7 +1,7 @@
 -- `replay::runs::make_calls`.
 use Rattle.replay.proofs.RunLaws.{LeftOf}
 use lib.ListN.{length}
-use Prim.Native.Nat.{◌-◌, ◌/◌, ◌≤◌}
+use Prim.Native.Nat.{◌/◌}
 use mathlib.Core.Path.{◌≡◌}
 use Rattle.replay.proofs.runs.make_calls.Given as goal
 
