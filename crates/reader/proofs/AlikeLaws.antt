@@ -10,7 +10,6 @@ use Rattle.block.specs.Numbers.{numbers_of}
 use Rattle.block.specs.SameBytes.{SameRead, SameBytes}
 use Rattle.block.proofs.SameBytes.{pairs_same, numbers_same}
 use Rattle.reader.specs.declared.types.Refusal.{Refusal}
-use Rattle.reader.specs.declared.types.Refusal.TheVariants as Refusal
 use Rattle.std.specs.Prelude.{Err}
 use Rattle.reader.specs.declared.types.Job.{Job}
 use Rattle.reader.specs.View.{check, ready_job, last_checks, checked, view}

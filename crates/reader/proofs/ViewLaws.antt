@@ -1,21 +1,19 @@
 -- What holds of every refusal and of the job that passes every check holds of every view: the walk along the checks, once. Likewise along the kinds. Assumes nothing.
-use mathlib.Core.Path.{◌≡◌, refl, ap, ◌∙◌}
-use Prim.Native.Nat.{ℕ, suc}
-use mathlib.Core.Bool.{Bool, true, false, cond, false≢true}
-use mathlib.Core.List.{List, [], ◌∷◌}
+use mathlib.Core.Path.{◌≡◌, refl, ap}
+use Prim.Native.Nat.{ℕ}
+use mathlib.Core.Bool.{Bool, true, false, cond}
+use mathlib.Core.List.{List}
 use lib.ListN.{length}
 use lib.Dec.{leb, ltb, eqb}
 use native.Mathlib.Omega.{arith}
 use borrow.Author.Tests.{leb-true, lt-ltb, eq-eqb, eqb-true}
 use Rattle.schedule.specs.Spans.{kind_fits, count_fits}
 use Rattle.schedule.proofs.Tests.{right_true}
-use Rattle.eos.specs.declared.types.Blend.{Blend}
 use Rattle.block.specs.declared.types.Conditions.{Conditions}
 use Rattle.block.specs.declared.types.Numbers.{Numbers}
 use Rattle.reader.specs.declared.types.Task.{Task}
 use Rattle.reader.specs.declared.types.Task.TheVariants.{DensityIteration, DensityIterationStable, PressureSpinodal, PressureSpinodalBranch, CriticalPoint, Spinodal, CriticalPointBinaryT, CriticalPointBinaryP}
 use Rattle.reader.specs.declared.types.Refusal.{Refusal}
-use Rattle.reader.specs.declared.types.Refusal.TheVariants as Refusal
 use Rattle.reader.specs.declared.types.Job.{Job}
 use Rattle.std.specs.Prelude.{Ok, Err}
 use Rattle.std.specs.declared.result.Result.{Result}

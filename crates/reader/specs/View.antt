@@ -6,7 +6,6 @@ use Rattle.eos.specs.Cubic.{max_density, pure_of}
 use Rattle.solver.specs.declared.types.DensityInitialization.{DensityInitialization}
 use Rattle.solver.specs.declared.types.DensityInitialization.TheVariants as Initial
 use Rattle.solver_density.specs.declared.types.Branch.{Branch}
-use Rattle.solver_density.specs.declared.types.Branch.TheVariants as Branch
 use Rattle.std.specs.declared.option.Option.{Option}
 use Rattle.std.specs.declared.option.Option.TheVariants.{None, Some}
 use Rattle.block.specs.declared.types.Conditions.{Conditions}
@@ -14,7 +13,6 @@ use Rattle.block.specs.declared.types.Numbers.{Numbers}
 use Rattle.reader.specs.declared.types.Task.{Task}
 use Rattle.reader.specs.declared.types.Task.TheVariants.{DensityIteration, DensityIterationStable, PressureSpinodal, PressureSpinodalBranch, CriticalPoint, Spinodal, CriticalPointBinaryT, CriticalPointBinaryP}
 use Rattle.reader.specs.declared.types.Refusal.{Refusal}
-use Rattle.reader.specs.declared.types.Refusal.TheVariants as Refusal
 use Rattle.reader.specs.declared.types.Job.{Job}
 use Rattle.block.specs.Pairs.{pairs_fit}
 use Rattle.block.specs.Numbers.{reads_fractions, numbers_of}

@@ -1,11 +1,9 @@
 -- A job's status is 27 exactly where specs/NotFinite.antt says. Assumes nothing.
-use mathlib.Core.Path.{◌≡◌, refl, ap}
+use mathlib.Core.Path.{◌≡◌, refl}
 use Prim.Native.Nat.{ℕ}
-use mathlib.Core.Bool.{true, false}
+use mathlib.Core.Bool.{false}
 use mathlib.Core.List.{List}
-use native.Mathlib.Omega.{arith}
-use lib.Dec.{ltb, eqb}
-use borrow.Author.Tests.{ltb-true, eqb-false, ne_eqb}
+use lib.Dec.{eqb}
 use Rattle.eos.specs.declared.types.Blend.{Blend}
 use Rattle.eos.specs.Cubic.{nth, max_density}
 use Rattle.solver.specs.Answer.{is27}
@@ -14,18 +12,14 @@ use Rattle.solver.specs.Evaluated.{evaluated}
 use Rattle.solver_density.proofs.Rule.{density_27, stable_27, spinodal_27, branch_27}
 use Rattle.solver_critical.proofs.Rule.{critical_27, spinodals_27}
 use Rattle.solver_binary.proofs.Rule.{temperature_27, pressure_27}
-use Rattle.block.specs.declared.types.Conditions.{Conditions}
 use Rattle.reader.specs.declared.types.Job.{Job}
 use Rattle.reader.specs.declared.types.Task.{Task}
 use Rattle.reader.specs.declared.types.Refusal.{Refusal}
-use Rattle.reader.specs.declared.types.Refusal.TheVariants as Refusal
 use Rattle.std.specs.Prelude.{Ok, Err}
 use Rattle.std.specs.declared.result.Result.{Result}
 use Rattle.reader.specs.Refusals.{number_of}
 use Rattle.reader.specs.declared.types.Task.TheVariants.{DensityIteration, DensityIterationStable, PressureSpinodal, PressureSpinodalBranch, CriticalPoint, Spinodal, CriticalPointBinaryT, CriticalPointBinaryP}
-use Rattle.block.specs.Numbers.{numbers_of}
-use Rattle.reader.specs.View.{task_of, refused, view}
-use Rattle.reader.proofs.ViewLaws.{view_keeps, task_keeps}
+use Rattle.reader.specs.View.{view}
 use Rattle.records.specs.Outcome.{course_of, refused_end, search_end, end_of, outcome_of}
 use Rattle.records.specs.NotFinite.{not_finite}
 

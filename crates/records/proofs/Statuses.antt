@@ -21,7 +21,6 @@ use Rattle.block.specs.declared.types.Conditions.{Conditions}
 use Rattle.reader.specs.declared.types.Job.{Job}
 use Rattle.reader.specs.declared.types.Task.{Task}
 use Rattle.reader.specs.declared.types.Refusal.{Refusal}
-use Rattle.reader.specs.declared.types.Refusal.TheVariants as Refusal
 use Rattle.std.specs.Prelude.{Ok}
 use Rattle.reader.specs.Refusals.{number_of as refusal_number}
 use Rattle.block.specs.Numbers.{numbers_of}

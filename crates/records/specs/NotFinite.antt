@@ -11,7 +11,6 @@ use Rattle.solver_binary.specs.CriticalPointBinary.{critical_point_binary_t, cri
 use Rattle.reader.specs.declared.types.Task.{Task}
 use Rattle.reader.specs.declared.types.Refusal.{Refusal}
 use Rattle.std.specs.declared.result.Result.{Result}
-use Rattle.reader.specs.declared.types.Task.TheVariants as Task
 
 -- "If a pressure, slope, curvature, potential, residual or derivative it yields, or a temperature or density after a step and its floor, isn't finite, and
 -- only then, that search ends with 27", for each kind; a data refusal is none

@@ -1,16 +1,16 @@
 -- A job made step by step to its span: its states one after another, and the answer written. Assumes nothing.
-use Rattle.std.proofs.Common.{◌≡◌, ℕ, suc, ◌+◌, ◌≤◌, true, List, length, refl, ap, ◌∙◌, arith, eq-eqb, le-leb}
+use Rattle.std.proofs.Common.{◌≡◌, ℕ, suc, ◌+◌, List, length, refl, ap, ◌∙◌, arith}
 use Rattle.buf.specs.Bytes.{splice}
 use Rattle.reader.specs.declared.types.Job.{Job}
 use Rattle.reader.specs.View.{view}
 use Rattle.records.specs.declared.types.Outcome.{Outcome}
-use Rattle.std.specs.Prelude.{Ok, Err}
+use Rattle.std.specs.Prelude.{Ok}
 use Rattle.records.specs.Record.{sealed_bytes, sealed_at}
 use Rattle.records.specs.Answered.{fits, did_by, answered}
 use Rattle.records.proofs.RecordLaws.{fit}
-use Rattle.schedule.specs.Spans.{kind_fits, count_fits, span_of}
+use Rattle.schedule.specs.Spans.{span_of}
 use Rattle.solver_state.specs.declared.types.State.{State}
-use Rattle.stepping.specs.Stepping.{start_of, step_of}
+use Rattle.stepping.specs.Stepping.{step_of}
 use Rattle.stepping.specs.States.{state_after, outcome_at}
 use Rattle.stepping.proofs.Laws.{stepping}
 

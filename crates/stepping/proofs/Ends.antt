@@ -14,7 +14,7 @@ use Rattle.solver_critical.specs.CriticalPoint.{start_density}
 use Rattle.solver.specs.Answer.{Progress}
 use Rattle.solver_step.specs.declared.types.SpinodalSpot.{SpinodalSpot}
 use Rattle.std.specs.declared.ops.ControlFlow.TheVariants.{Break, Continue}
-use Rattle.solver_step.specs.Phase.{Phase, Standing}
+use Rattle.solver_step.specs.Phase.{Standing}
 use Rattle.solver_step.specs.declared.types.DensitySpot.{DensitySpot}
 use Rattle.solver_step.specs.declared.types.StableSpot.{StableSpot}
 use Rattle.solver_step.specs.SpinodalStep.{spinodal_start, spinodal_left, spinodal_next, branch_begin, branch_left, branch_next}

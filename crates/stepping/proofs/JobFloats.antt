@@ -18,7 +18,6 @@ use Rattle.block.specs.declared.types.Conditions.{Conditions}
 use Rattle.reader.specs.declared.types.Task.{Task}
 use Rattle.reader.specs.declared.types.Refusal.{Refusal}
 use Rattle.std.specs.declared.result.Result.{Result}
-use Rattle.reader.specs.declared.types.Task.TheVariants as Task
 use Rattle.reader.specs.declared.types.Job.{Job}
 use Rattle.block.specs.Pairs.{offset_of, conditions}
 use Rattle.block.specs.Numbers.{uses_pressure, uses_start, used_choice, used_pressure, used_start, used, conditions_at, conditions_of}

@@ -5,7 +5,7 @@ use Rattle.float.specs.Sign.{finite_of}
 use Rattle.eos.specs.declared.types.Blend.{Blend}
 use Rattle.solver.specs.Answer.{Answer}
 use Rattle.solver.specs.Answer.{status_of, values_of}
-use Rattle.solver.specs.Search.{Evaluator, Search, done, Going, run}
+use Rattle.solver.specs.Search.{Evaluator, done, Going, run}
 use Rattle.solver.specs.Evaluated.{evaluated}
 use Rattle.solver.specs.Stored.{ended_numbers, in_ranges}
 use Rattle.solver.proofs.Ranges.{FitsBelow}
@@ -17,7 +17,6 @@ use Rattle.reader.specs.declared.types.Task.{Task}
 use Rattle.reader.specs.declared.types.Refusal.{Refusal}
 use Rattle.std.specs.declared.result.Result.{Result}
 use Rattle.reader.specs.Refusals.{number_of}
-use Rattle.reader.specs.declared.types.Task.TheVariants as Task
 use Rattle.reader.specs.View.{of_data, view}
 use Rattle.records.specs.Outcome.{Course, refused_by, searches, course_of, refused_end, search_end, end_of, outcome_of}
 use Rattle.records.specs.Record.{sealed_bytes, sealed_of}

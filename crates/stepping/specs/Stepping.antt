@@ -16,7 +16,6 @@ use Rattle.reader.specs.declared.types.Job.{Job}
 use Rattle.reader.specs.declared.types.Task.{Task}
 use Rattle.reader.specs.declared.types.Refusal.{Refusal}
 use Rattle.std.specs.declared.result.Result.{Result}
-use Rattle.reader.specs.declared.types.Task.TheVariants as Task
 use Rattle.reader.specs.Refusals.{number_of}
 use Rattle.reader.specs.View.{of_data}
 use Rattle.stepping.specs.declared.types.Ended.{Ended}

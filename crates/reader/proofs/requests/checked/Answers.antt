@@ -1,12 +1,11 @@
 -- `reader::requests::checked`.
-use mathlib.Core.Path.{refl, ap, ◌∙◌}
+use mathlib.Core.Path.{refl, ap}
 use native.Mathlib.Omega.{arith}
 use borrow.Author.Tests.{not-false, not-true}
 use Rattle.eos.specs.declared.types.Blend.{Blend}
 use Rattle.block.specs.Blend.{empty_blend}
 use Rattle.block.proofs.PairLaws.{within}
 use Rattle.reader.proofs.BlendLaws.{numbered, no_interactions, no_fractions, unread, blend_read, conditions_read, coefficients_fit, interactions_fit_lem, fractions_fit_lem, sum_fit, refused_12, refused_13, refused_14, refused_17, passed_17}
-use borrow.Author.Rules.{rules}
 use Rattle.reader.proofs.requests.checked.Goals as goal
 
 pub read_blend_components-requires : goal.read_blend_components-requires

@@ -1,5 +1,5 @@
 -- `stepping::answers::after`.
-use Rattle.std.proofs.Common.{◌≡◌, ◌-◌}
+use Rattle.std.proofs.Common.{◌≡◌}
 use Rattle.stepping.specs.States.{state_after}
 use Rattle.stepping.proofs.answers.after.Given as goal
 

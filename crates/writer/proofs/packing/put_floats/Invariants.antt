@@ -1,6 +1,6 @@
 -- `writer::packing::put_floats`.
 use mathlib.Core.Path.{◌≡◌}
-use Prim.Native.Nat.{◌+◌, ◌-◌, ◌*◌, ◌≤◌}
+use Prim.Native.Nat.{◌+◌, ◌*◌}
 use lib.ListN.{length, drop}
 use Rattle.buf.specs.Bytes.{splice}
 use Rattle.writer.specs.Packed.{floats_bytes}
