@@ -14,7 +14,7 @@ use Rattle.solver_critical.specs.CriticalPoint.{start_density}
 use Rattle.solver_critical.proofs.Spans.{critical_150, spinodal_250}
 use Rattle.solver_binary.proofs.Spans.{temperature_200, pressure_200}
 use Rattle.solver.specs.Answer.{Progress}
-use Rattle.solver_step.specs.declared.types.SpinodalSpot.{SpinodalSpot}
+use Rattle.solver_step.specs.SpinodalStep.{SpinodalSpot}
 use Rattle.std.specs.declared.ops.ControlFlow.TheVariants.{Break, Continue}
 use Rattle.solver_step.specs.Phase.{Standing}
 use Rattle.solver_step.specs.declared.types.DensitySpot.{DensitySpot}
@@ -81,13 +81,13 @@ module _ (ev : Evaluator) (s : State) where
         → going (PressureSpinodal maxdensity t ρ) (spinodal_step maxdensity t ev p s) ≡ next_of finite_of ev (spinodal_left maxdensity t p) n d
     unfolding going left_of spinodal_step spinodal_left next_of
     spinodal_step_lem ρ (Break a) e = stays (spinodal_left maxdensity t) s _ (Break a) e
-    spinodal_step_lem ρ (Continue x) e = kept (spinodal_left maxdensity t) spinodal_place_by spinodal_numbers spinodal_back n x.rho _ _ (spinodal_law maxdensity t ev x n d)
+    spinodal_step_lem ρ (Continue x) e = kept (spinodal_left maxdensity t) spinodal_place_by spinodal_numbers spinodal_back n x.at _ _ (spinodal_law maxdensity t ev x n d)
 
     branch_step_lem : (branch : Branch) (p : Progress SpinodalSpot) → spinodal_place_by s.numbers ≡ p
         → going (BranchSpinodal maxdensity t branch) (branch_step maxdensity t branch ev p s) ≡ next_of finite_of ev (branch_left maxdensity t branch p) n d
     unfolding going left_of branch_step branch_left next_of
     branch_step_lem branch (Break a) e = stays (branch_left maxdensity t branch) s _ (Break a) e
-    branch_step_lem branch (Continue x) e = kept (branch_left maxdensity t branch) spinodal_place_by spinodal_numbers spinodal_back n x.rho _ _ (branch_law maxdensity t branch ev x n d)
+    branch_step_lem branch (Continue x) e = kept (branch_left maxdensity t branch) spinodal_place_by spinodal_numbers spinodal_back n x.at _ _ (branch_law maxdensity t branch ev x n d)
 
   module _ (maxdensity : Float) where
     critical_step_lem : (temperature density : Option Float) (p : Progress CriticalSpot) → critical_place_by s.numbers ≡ p

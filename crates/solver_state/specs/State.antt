@@ -12,7 +12,7 @@ use Rattle.solver_critical.specs.CriticalPoint.{start_density, critical_point}
 use Rattle.solver_critical.specs.Spinodal.{spinodal}
 use Rattle.solver_binary.specs.CriticalPointBinary.{critical_point_binary_t, critical_point_binary_p}
 use Rattle.solver.specs.Answer.{Progress}
-use Rattle.solver_step.specs.declared.types.SpinodalSpot.{SpinodalSpot}
+use Rattle.solver_step.specs.SpinodalStep.{SpinodalSpot}
 use Rattle.std.specs.declared.ops.ControlFlow.TheVariants.{Break, Continue}
 use Rattle.solver_step.specs.Phase.{Standing}
 use Rattle.solver_step.specs.declared.types.DensitySpot.{DensitySpot}
@@ -112,11 +112,11 @@ stable_step maxdensity t p ev (Continue x) s = stepped_to (stable_numbers (stabl
 
 unfoldable pub spinodal_step : (maxdensity t : Float) → Evaluator → Progress SpinodalSpot → State → State
 spinodal_step maxdensity t ev (Break a) s = s
-spinodal_step maxdensity t ev (Continue x) s = stepped_to (spinodal_numbers (spinodal_next maxdensity t ev x)) x.rho s
+spinodal_step maxdensity t ev (Continue x) s = stepped_to (spinodal_numbers (spinodal_next maxdensity t ev x)) x.at s
 
 unfoldable pub branch_step : (maxdensity t : Float) → Branch → Evaluator → Progress SpinodalSpot → State → State
 branch_step maxdensity t branch ev (Break a) s = s
-branch_step maxdensity t branch ev (Continue x) s = stepped_to (spinodal_numbers (branch_next maxdensity t branch ev x)) x.rho s
+branch_step maxdensity t branch ev (Continue x) s = stepped_to (spinodal_numbers (branch_next maxdensity t branch ev x)) x.at s
 
 unfoldable pub critical_step : (maxdensity ρ : Float) → Evaluator → Progress CriticalSpot → State → State
 critical_step maxdensity ρ ev (Break a) s = s

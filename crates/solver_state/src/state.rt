@@ -144,7 +144,7 @@ pub fn step(blend: Blend, job: Job, state: State) -> State
             start: _,
         } => stepped(solver_step::spinodal_place_by(numbers), state, |spot| {
             let next = solver_step::spinodal_next(blend, maxdensity, temperature, spot);
-            (solver_step::spinodal_numbers(next), spot.rho)
+            (solver_step::spinodal_numbers(next), spot.at)
         }),
         Job::BranchSpinodal {
             maxdensity,
@@ -152,7 +152,7 @@ pub fn step(blend: Blend, job: Job, state: State) -> State
             branch,
         } => stepped(solver_step::spinodal_place_by(numbers), state, |spot| {
             let next = solver_step::branch_next(blend, maxdensity, temperature, branch, spot);
-            (solver_step::spinodal_numbers(next), spot.rho)
+            (solver_step::spinodal_numbers(next), spot.at)
         }),
         Job::CriticalPoint {
             maxdensity,

@@ -35,12 +35,13 @@ use Rattle.solver_density.specs.Density.{conditions_of, converged, corrected, ne
 use Rattle.solver_density.specs.Rounds.{finite3, tested_outcome, spinodal_round, newton_round, slope_round}
 use Rattle.solver_density.specs.Spinodal as Spinodal
 use Rattle.solver_density.specs.Spinodal.{spinodal_outcome, branch_start, on_branch, branch_answer}
-use Rattle.solver_step.specs.declared.types.SpinodalSpot.{SpinodalSpot}
+use Rattle.solver_step.specs.SpinodalStep.{SpinodalSpot}
 use Rattle.solver_step.specs.Phase.{Phase, Standing}
 use Rattle.solver_step.specs.declared.types.DensitySpot.{DensitySpot}
 use Rattle.solver_step.specs.declared.types.DensitySpot.TheVariants.{First, Slope, Curvature, NearestSpinodal, LiquidSpinodal, VaporSpinodal}
 use Rattle.solver_step.specs.declared.types.StableSpot.{StableSpot}
 use Rattle.solver_step.specs.declared.types.StableSpot.TheVariants.{LiquidSearch, VaporSearch, LiquidPotential, VaporPotential}
+use Rattle.solver.specs.Rounds.{onward}
 use Rattle.solver_step.specs.SpinodalStep.{spinodal_on, spinodal_start, spinodal_next, branch_place, branch_begin, branch_next}
 use Rattle.solver_step.specs.DensityStep.{phase_answer, slope_at, arrived_at, slope_on, density_at, first_on, nearest_on, vapor_on, liquid_on, detour_at, curvature_on, density_next, density_begin}
 use Rattle.solver_step.specs.StableStep.{phases_on, vapor_search_on, liquid_potential_on, vapor_potential_on, of_liquid, of_vapor, stable_at, liquid_search_on, stable_next, stable_begin}
@@ -94,7 +95,7 @@ unfolding answer_by values_of
 answer_by_fits status v h = cond_keeps AnswerFits (eqb status 0) (Ok v) (Err (refusal_by status)) h (refused_fits (refusal_by status))
 
 phase_by_fits : (status : ℕ) (ρ : Float) → Fit ρ → PhaseFits (phase_by status ρ)
-unfolding phase_by
+unfolding answer_by
 phase_by_fits status ρ h = cond_keeps PhaseFits (eqb status 0) (Ok ρ) (Err (refusal_by status)) (found_fits_lem ρ h) (failed_fits (refusal_by status))
 
 -- ---- kinds 3 and 4: where a spinodal search stands
@@ -106,7 +107,7 @@ spinodal_ended : (a : Answer) → AnswerFits a → SpinodalFits (Break a)
 unfolding spinodal_numbers ended_numbers
 spinodal_ended a h = h
 
-spinodal_at : (s : SpinodalSpot) → Fit s.rho → SpinodalFits (Continue s)
+spinodal_at : (s : SpinodalSpot) → Fit s.at → SpinodalFits (Continue s)
 unfolding spinodal_numbers spot_numbers
 spinodal_at s h = record { first = h; second = zero_fits; third = zero_fits }
 
@@ -131,7 +132,7 @@ module _ (maxdensity ρ : Float) (y : Pressure) (hρ : Fit ρ) (hp : Fit y.p) (h
   round-fits = cond_keeps OutcomeFits (finite3 y) _ (Break (Err NotFinite)) (tested_fits _ outcome_fits) (refused_fits NotFinite)
 
 on_fits : (n : ℕ) (o : Progress Float) → OutcomeFits o → SpinodalFits (spinodal_on n o)
-unfolding spinodal_on
+unfolding onward
 on_fits n (Break a) h = spinodal_ended a h
 on_fits zero (Continue ρ) h = spinodal_ended _ (refused_fits NotConverged)
 on_fits (suc n) (Continue ρ) h = spinodal_at _ h
@@ -160,11 +161,11 @@ branch_begin_fits : (maxdensity : Float) (branch : Branch) → SpinodalFits (bra
 unfolding branch_begin
 branch_begin_fits maxdensity branch = branch_fits branch _ (start_fits _ (branch_start_fits maxdensity branch))
 
-module _ (maxdensity t : Float) (ev : Evaluator) (yields : YieldsFit ev) (s : SpinodalSpot) (h : Fit s.rho) where
+module _ (maxdensity t : Float) (ev : Evaluator) (yields : YieldsFit ev) (s : SpinodalSpot) (h : Fit s.at) where
   spinodal_next_fits : SpinodalFits (spinodal_next maxdensity t ev s)
   unfolding spinodal_next
   spinodal_next_fits =
-      on_fits s.rounds _ (round-fits maxdensity s.rho (ev (curvature t s.rho)) h (yields.curvature_p t s.rho) (yields.curvature_second t s.rho))
+      on_fits s.rounds _ (round-fits maxdensity s.at (ev (curvature t s.at)) h (yields.curvature_p t s.at) (yields.curvature_second t s.at))
 
   branch_next_fits : (branch : Branch) → SpinodalFits (branch_next maxdensity t branch ev s)
   unfolding branch_next

@@ -12,7 +12,7 @@ use Rattle.solver_density.specs.declared.types.Branch.{Branch}
 use Rattle.solver_density.specs.declared.types.Conditions.{Conditions}
 use Rattle.solver_critical.specs.CriticalPoint.{start_density}
 use Rattle.solver.specs.Answer.{Progress}
-use Rattle.solver_step.specs.declared.types.SpinodalSpot.{SpinodalSpot}
+use Rattle.solver_step.specs.SpinodalStep.{SpinodalSpot}
 use Rattle.std.specs.declared.ops.ControlFlow.TheVariants.{Break, Continue}
 use Rattle.solver_step.specs.Phase.{Standing}
 use Rattle.solver_step.specs.declared.types.DensitySpot.{DensitySpot}
