@@ -42,7 +42,8 @@ pub extern "C" fn pr_write_block(
         pressure,
         start,
     };
-    writer::write_block(kind, n, coefficients, interactions, fractions, c, block)
+    let written = writer::write_block(kind, n, coefficients, interactions, fractions, c, block);
+    writer::number(written)
 }
 
 // The board's calls. specs/Answers.antt of `board` says what their number means; on a refusal ticket, evaluations, density and turns stay.
