@@ -13,6 +13,6 @@ pub use crate::looks::look;
 pub use crate::quotes::quote;
 pub use crate::ranges::fits;
 pub use crate::submits::submit;
-pub use crate::telling::{tell_look, tell_submit, tell_turn};
+pub use crate::telling::{number, tell_look, tell_quote, tell_submit, tell_turn};
 pub use crate::turns::turn;
 pub use crate::types::{Refusal, Reply, Shown};

@@ -42,7 +42,14 @@ fn reply(request: &[u8; 642], out: &mut [u8]) -> usize
 }
 
 // Answers the request on standard input with the record's line. Bytes after the request are ignored; where there are fewer, `short` is printed.
-pub fn answer_input(rt: &(impl Input + Print)) -> io::Result<()> {
+// A failed write is not told.
+pub fn answer_input(rt: &(impl Input + Print)) {
+    match try_answer_input(rt) {
+        Ok(()) | Err(_) => {}
+    }
+}
+
+fn try_answer_input(rt: &(impl Input + Print)) -> io::Result<()> {
     let mut request = [0u8; 642];
     if rt.reader().read_exact(&mut request).is_err() {
         return println!(rt; "short");
