@@ -7,4 +7,4 @@ mod writer;
 
 pub use crate::reading::call_at;
 pub use crate::types::Call;
-pub use crate::writer::put_answer;
+pub use crate::writer::{put_answer, put_framed};

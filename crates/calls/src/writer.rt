@@ -7,7 +7,8 @@ ghost use Rattle.calls.specs.Calls.{framed, answer_bytes};
 
 use board::{Refusal, Reply};
 
-fn put_framed(out: &mut [u8], at: usize, what: u64, number: u64, written: &[u8])
+// The 32 bytes of an answer at index `at`, whatever it is and whatever its number.
+pub fn put_framed(out: &mut [u8], at: usize, what: u64, number: u64, written: &[u8])
     requires { (at + 32 ≤ length out.old) × (length written.now ≤ 16) }
     ensures { out.new ≡ splice out.old at (framed what number written.now) }
 {

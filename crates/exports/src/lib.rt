@@ -1,6 +1,6 @@
 // The layers below a request that bench/ measures, under C's names and with the contracts of what they call. Users link `gateway`.
 // The names and parameters are bench/'s C interface, so a blend stays seven parameters in each eos_* function.
-// A jet's result is taken apart before it is stored: the borrow checker takes no array field straight from a call's result.
+// A jet's result is taken apart before it is stored: the borrow checker refuses `*r = f(..).c`, also from a local.
 // A row stands where it is stored: a function for each would be no shorter.
 #![tactic(auto)]
 
