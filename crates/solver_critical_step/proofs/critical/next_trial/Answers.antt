@@ -10,6 +10,6 @@ use Rattle.solver_critical_step.proofs.critical.next_trial.Goals as goal
 pub returns-then-trial-lt3 : goal.returns-then-trial-lt3
 returns-then-trial-lt3 c = rw add-one at c.trial_at.ensures
 
-pub returns : goal.returns
+pub returns-else-trial-lt3 : goal.returns-else-trial-lt3
 unfolding trial_at trial_temperatures
-returns c = let t = c.args.trial in let h : 3 ≤ suc t = omega arith in rw (le-ltb (suc t) 3 h)
+returns-else-trial-lt3 c = let t = c.args.trial in let h : 3 ≤ suc t = omega arith in rw (le-ltb (suc t) 3 h)

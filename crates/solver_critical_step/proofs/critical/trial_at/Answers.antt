@@ -8,6 +8,6 @@ pub returns-then-trial-lt3 : goal.returns-then-trial-lt3
 unfolding trial_at trial_temperatures
 returns-then-trial-lt3 c = rw (lt-ltb _ 3 c.if-trial-lt3.true, ← c.trial_temperature.ensures, ← c.hkm_start-at.ensures)
 
-pub returns : goal.returns
+pub returns-else-trial-lt3 : goal.returns-else-trial-lt3
 unfolding trial_at trial_temperatures
-returns c = rw (le-ltb _ 3 c.if-trial-lt3.false)
+returns-else-trial-lt3 c = rw (le-ltb _ 3 c.if-trial-lt3.false)
