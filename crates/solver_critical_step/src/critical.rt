@@ -41,6 +41,7 @@ fn given_on(place: Progress<HkmSpot>) -> Progress<CriticalSpot>
 }
 
 // a trial begins, or there is none
+#[tactic(auto, unfolding(crate::specs::CriticalStep::trial_at, solver_critical::specs::CriticalPoint::trial_temperatures))]
 fn trial_at(rho: f64, trial: u64) -> Progress<CriticalSpot>
     ensures { result ≡ trial_at rho trial }
 {
@@ -53,6 +54,7 @@ fn trial_at(rho: f64, trial: u64) -> Progress<CriticalSpot>
 }
 
 // the trial after this one
+#[tactic(auto, unfolding(crate::specs::CriticalStep::trial_at, solver_critical::specs::CriticalPoint::trial_temperatures))]
 fn next_trial(rho: f64, trial: u64) -> Progress<CriticalSpot>
     ensures { result ≡ trial_at rho (suc trial) }
 {
