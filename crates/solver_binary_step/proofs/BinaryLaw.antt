@@ -15,14 +15,13 @@ use Rattle.solver_binary.specs.Rounds.{round_t, round_p}
 use Rattle.solver_binary.proofs.Newton.{rounds_next}
 use Rattle.solver.proofs.Turns.{led}
 use Rattle.solver_binary.proofs.Settles.{round_led_t, round_led_p}
-use Rattle.solver_binary_step.specs.declared.types.TemperatureSpot.{TemperatureSpot}
-use Rattle.solver_binary_step.specs.declared.types.PressureSpot.{PressureSpot}
-use Rattle.solver_binary_step.specs.BinaryStep.{temperature_on, temperature_begin, temperature_at, temperature_left, temperature_next, pressure_on, pressure_begin, pressure_at, pressure_left, pressure_next}
+use Rattle.solver.specs.Rounds.{onward}
+use Rattle.solver_binary_step.specs.BinaryStep.{TemperatureSpot, PressureSpot, temperature_on, temperature_begin, temperature_at, temperature_left, temperature_next, pressure_on, pressure_begin, pressure_at, pressure_left, pressure_next}
 
 -- ---- kind 8
 module _ (maxdensity t : Float) where
   temperature_on_lem : (n : ℕ) (o : Progress Densities) → temperature_left maxdensity t (temperature_on n o) ≡ settled (led o (search_t maxdensity t n))
-  unfolding temperature_left temperature_on settle led rounds
+  unfolding temperature_left onward settle led rounds
   temperature_on_lem n (Break a) = refl
   temperature_on_lem zero (Continue p) = refl
   temperature_on_lem (suc n) (Continue p) = refl
@@ -31,7 +30,7 @@ module _ (maxdensity t : Float) where
       → next_of finite_of ev (temperature_left maxdensity t (Continue s)) n d ≡ moved n (temperature_at s) (temperature_left maxdensity t (temperature_next maxdensity t ev s))
   unfolding temperature_left temperature_at temperature_next
   temperature_law ev s n d =
-      rounds_next (query_t t) (after_conditions_t maxdensity) (round_t maxdensity) (round_led_t maxdensity) ev s.p s.rounds n d
+      rounds_next (query_t t) (after_conditions_t maxdensity) (round_t maxdensity) (round_led_t maxdensity) ev s.at s.rounds n d
       ∙ ap (moved n (temperature_at s)) (sym (temperature_on_lem s.rounds _))
 
   pub temperature_begins : (z0 z1 : Float) (density : Option Float)
@@ -42,7 +41,7 @@ module _ (maxdensity t : Float) where
 -- ---- kind 9
 module _ (maxdensity pressure : Float) where
   pressure_on_lem : (n : ℕ) (o : Progress Unknowns) → pressure_left maxdensity pressure (pressure_on n o) ≡ settled (led o (search_p maxdensity pressure n))
-  unfolding pressure_left pressure_on settle led rounds
+  unfolding pressure_left onward settle led rounds
   pressure_on_lem n (Break a) = refl
   pressure_on_lem zero (Continue p) = refl
   pressure_on_lem (suc n) (Continue p) = refl
@@ -51,7 +50,7 @@ module _ (maxdensity pressure : Float) where
       → next_of finite_of ev (pressure_left maxdensity pressure (Continue s)) n d ≡ moved n (pressure_at s) (pressure_left maxdensity pressure (pressure_next maxdensity pressure ev s))
   unfolding pressure_left pressure_at pressure_next
   pressure_law ev s n d =
-      rounds_next (query_p pressure) (after_conditions_p maxdensity) (round_p maxdensity) (round_led_p maxdensity) ev s.p s.rounds n d
+      rounds_next (query_p pressure) (after_conditions_p maxdensity) (round_p maxdensity) (round_led_p maxdensity) ev s.at s.rounds n d
       ∙ ap (moved n (pressure_at s)) (sym (pressure_on_lem s.rounds _))
 
   pub pressure_begins : (z0 z1 : Float) (temperature density : Option Float)

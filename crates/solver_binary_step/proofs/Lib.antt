@@ -1,4 +1,3 @@
-pub mod Places
 pub mod BinaryLaw
 pub mod StoredBack
 pub mod Ranges

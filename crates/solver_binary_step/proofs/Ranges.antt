@@ -11,9 +11,8 @@ use Rattle.solver.specs.Answer.{Progress}
 use Rattle.solver_binary.specs.declared.types.Densities.{Densities}
 use Rattle.std.specs.declared.ops.ControlFlow.TheVariants.{Break, Continue}
 use Rattle.solver_binary.specs.declared.types.Unknowns.{Unknowns}
-use Rattle.solver_binary_step.specs.declared.types.TemperatureSpot.{TemperatureSpot}
-use Rattle.solver_binary_step.specs.declared.types.PressureSpot.{PressureSpot}
-use Rattle.solver_binary_step.specs.BinaryStep.{temperature_on, temperature_begin, temperature_next, pressure_on, pressure_begin, pressure_next}
+use Rattle.solver.specs.Rounds.{onward}
+use Rattle.solver_binary_step.specs.BinaryStep.{TemperatureSpot, PressureSpot, temperature_on, temperature_begin, temperature_next, pressure_on, pressure_begin, pressure_next}
 use Rattle.solver_binary_step.specs.Stored.{spot_numbers, temperature_numbers, pressure_numbers}
 
 -- the counters of a place that asks
@@ -23,7 +22,7 @@ asks_fits rounds x y z h = fits 200 _ (record { stage = omega arith; tag = omega
 
 -- ---- kind 8
 temperature_on_fits : (n : ℕ) (o : Progress Densities) → n < 200 → FitsBelow 200 (temperature_numbers (temperature_on n o))
-unfolding temperature_numbers temperature_on
+unfolding temperature_numbers onward
 temperature_on_fits n (Break a) h = ended_below 200 a (omega arith)
 temperature_on_fits zero (Continue p) h = ended_below 200 _ (omega arith)
 temperature_on_fits (suc n) (Continue p) h = asks_fits n _ _ _ (omega arith)
@@ -38,7 +37,7 @@ temperature_begin_fits maxdensity z0 z1 density = asks_fits 199 _ _ _ (omega ari
 
 -- ---- kind 9
 pressure_on_fits : (n : ℕ) (o : Progress Unknowns) → n < 200 → FitsBelow 200 (pressure_numbers (pressure_on n o))
-unfolding pressure_numbers pressure_on
+unfolding pressure_numbers onward
 pressure_on_fits n (Break a) h = ended_below 200 a (omega arith)
 pressure_on_fits zero (Continue p) h = ended_below 200 _ (omega arith)
 pressure_on_fits (suc n) (Continue p) h = asks_fits n _ _ _ (omega arith)

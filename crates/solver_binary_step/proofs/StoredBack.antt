@@ -3,9 +3,8 @@ use mathlib.Core.Path.{◌≡◌, refl, ap}
 use Rattle.solver.specs.Stored.{ended_numbers}
 use Rattle.solver.proofs.StoredBack.{answer_back}
 use Rattle.solver.specs.Answer.{Progress}
-use Rattle.solver_binary_step.specs.declared.types.TemperatureSpot.{TemperatureSpot}
+use Rattle.solver_binary_step.specs.BinaryStep.{TemperatureSpot, PressureSpot}
 use Rattle.std.specs.declared.ops.ControlFlow.TheVariants.{Break, Continue}
-use Rattle.solver_binary_step.specs.declared.types.PressureSpot.{PressureSpot}
 use Rattle.solver_binary_step.specs.Stored.{spot_numbers, temperature_numbers, temperature_spot_by, temperature_place_by, pressure_numbers, pressure_spot_by, pressure_place_by}
 
 pub temperature_back : (x : Progress TemperatureSpot) → temperature_place_by (temperature_numbers x) ≡ x

@@ -18,23 +18,23 @@ use Rattle.std.specs.declared.ops.ControlFlow.TheVariants.{Break, Continue}
 use Rattle.solver_critical.specs.CriticalPoint.{or_else, trial_temperatures, trial_temperature, start_density, hkm_from, critical_point_hkm, trials, from_temperature, critical_point}
 use Rattle.solver.proofs.Turns.{led}
 use Rattle.solver_critical.proofs.Settles.{round_led}
-use Rattle.solver_critical_step.specs.declared.types.HkmSpot.{HkmSpot}
+use Rattle.solver.specs.Rounds.{onward}
 use Rattle.solver_critical_step.specs.declared.types.CriticalSpot.{CriticalSpot}
 use Rattle.solver_critical_step.specs.declared.types.CriticalSpot.TheVariants.{Given, Trial}
-use Rattle.solver_critical_step.specs.CriticalStep.{hkm_on, hkm_start, resume_hkm, hkm_left, hkm_next, critical_at, given_on, trial_at, trial_on, critical_begin, resume_critical, critical_left, critical_next}
+use Rattle.solver_critical_step.specs.CriticalStep.{HkmSpot, hkm_on, hkm_start, resume_hkm, hkm_left, hkm_next, critical_at, given_on, trial_at, trial_on, critical_begin, resume_critical, critical_left, critical_next}
 
 module _ (maxdensity : Float) where
   -- ---- critical_point_hkm
   hkm_on_lem : (n : ℕ) (o : Progress Point) → hkm_left maxdensity (hkm_on n o) ≡ settled (led o (hkm_from maxdensity n))
-  unfolding hkm_left resume_hkm hkm_on settle led hkm_from
+  unfolding hkm_left resume_hkm onward settle led hkm_from
   hkm_on_lem n (Break a) = refl
   hkm_on_lem zero (Continue p) = refl
   hkm_on_lem (suc n) (Continue p) = refl
 
-  hkm_law : (ev : Evaluator) (s : HkmSpot) (n : ℕ) (d : Float) → next_of finite_of ev (resume_hkm maxdensity s) n d ≡ moved n s.p.rho (hkm_left maxdensity (hkm_next maxdensity ev s))
+  hkm_law : (ev : Evaluator) (s : HkmSpot) (n : ℕ) (d : Float) → next_of finite_of ev (resume_hkm maxdensity s) n d ≡ moved n s.at.rho (hkm_left maxdensity (hkm_next maxdensity ev s))
   unfolding next_of resume_hkm hkm_from hkm_next
   hkm_law ev s n d =
-      ap (moved n s.p.rho) (round_led maxdensity (hkm_from maxdensity s.rounds) s.p (ev (criticality s.p.t s.p.rho)) ∙ sym (hkm_on_lem s.rounds _))
+      ap (moved n s.at.rho) (round_led maxdensity (hkm_from maxdensity s.rounds) s.at (ev (criticality s.at.t s.at.rho)) ∙ sym (hkm_on_lem s.rounds _))
 
   -- what stands at a spot asks, also where more follows
   hkm_asks : (s : HkmSpot) (f : Answer → Search) → settled (bind (resume_hkm maxdensity s) f) ≡ bind (resume_hkm maxdensity s) f
@@ -68,10 +68,10 @@ module _ (maxdensity : Float) where
     pub critical_law : (ev : Evaluator) (s : CriticalSpot) (n : ℕ) (d : Float)
         → next_of finite_of ev (resume_critical maxdensity ρ s) n d ≡ moved n (critical_at s) (critical_left maxdensity ρ (critical_next maxdensity ρ ev s))
     unfolding resume_critical critical_at critical_next
-    critical_law ev (Given s) n d = hkm_law ev s n d ∙ ap (moved n s.p.rho) (sym (given_on_lem _))
+    critical_law ev (Given s) n d = hkm_law ev s n d ∙ ap (moved n s.at.rho) (sym (given_on_lem _))
     critical_law ev (Trial i s) n d =
-        next_bind finite_of ev (resume_hkm maxdensity s) (or_else (from (suc i))) n d _ s.p.rho (hkm_law ev s n d)
-        ∙ ap (moved n s.p.rho) (sym (trial_on_lem i _))
+        next_bind finite_of ev (resume_hkm maxdensity s) (or_else (from (suc i))) n d _ s.at.rho (hkm_law ev s n d)
+        ∙ ap (moved n s.at.rho) (sym (trial_on_lem i _))
 
     from_temperature_lem : (temperature : Option Float) → critical_left maxdensity ρ (critical_begin ρ temperature) ≡ settled (from_temperature maxdensity temperature ρ)
     unfolding critical_begin from_temperature critical_left resume_critical resume_hkm hkm_start critical_point_hkm hkm_from settle

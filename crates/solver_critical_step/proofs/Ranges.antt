@@ -18,12 +18,12 @@ use Rattle.solver.specs.Answer.{Progress}
 use Rattle.solver_critical.specs.declared.types.Point.{Point}
 use Rattle.std.specs.declared.ops.ControlFlow.TheVariants.{Break, Continue}
 use Rattle.solver_critical.specs.CriticalPoint.{trial_temperatures, trial_temperature}
-use Rattle.solver_critical_step.specs.declared.types.HkmSpot.{HkmSpot}
+use Rattle.solver.specs.Rounds.{onward}
 use Rattle.solver_critical_step.specs.declared.types.CriticalSpot.{CriticalSpot}
 use Rattle.solver_critical_step.specs.declared.types.CriticalSpot.TheVariants.{Given, Trial}
 use Rattle.solver_critical_step.specs.declared.types.SpinodalsSpot.{SpinodalsSpot}
 use Rattle.solver_critical_step.specs.declared.types.SpinodalsSpot.TheVariants.{CriticalSearch, VaporSpinodal, LiquidSpinodal}
-use Rattle.solver_critical_step.specs.CriticalStep.{hkm_on, hkm_start, hkm_next, given_on, trial_at, trial_on, critical_begin, critical_next}
+use Rattle.solver_critical_step.specs.CriticalStep.{HkmSpot, hkm_on, hkm_start, hkm_next, given_on, trial_at, trial_on, critical_begin, critical_next}
 use Rattle.solver_critical_step.specs.SpinodalsStep.{stability_on, stability_start, stability_next, liquid_on, vapor_on, critical_on, spinodals_begin, spinodals_next}
 use Rattle.solver_critical_step.specs.Stored.{spot_numbers, critical_spot_numbers, critical_numbers, spinodals_numbers}
 
@@ -54,7 +54,7 @@ place_fits (Break a) b = ended_fits a
 place_fits (Continue s) b = spot_fits 0 (omega arith) s b
 
 given_few : (n : ℕ) (o : Progress Point) → n < 50 → Few (given_on (hkm_on n o))
-unfolding given_on hkm_on
+unfolding given_on onward
 given_few n (Break a) h = ended
 given_few zero (Continue p) h = ended
 given_few (suc n) (Continue p) h = let l : n < 50 = omega arith in given l
@@ -72,7 +72,7 @@ trial_at_few ρ i = by (ltb i 3) (λ e. ltb-true i 3 e)
     by false h = ended
 
 trial_few : (ρ : Float) (i n : ℕ) (o : Progress Point) → i < 4 → n < 50 → Few (trial_on ρ i (hkm_on n o))
-unfolding trial_on hkm_on
+unfolding trial_on onward
 trial_few ρ i n (Break (Ok v)) g h = ended
 trial_few ρ i n (Break (Err r)) g h = trial_at_few ρ (suc i)
 trial_few ρ i zero (Continue p) g h = trial_at_few ρ (suc i)
@@ -97,14 +97,14 @@ critical_begin_fits ρ temperature = place_fits _ (begin_few ρ temperature)
 
 -- ---- kind 6
 liquid_fits : (vapor : Float) (n : ℕ) (o : Progress Float) → n < 50 → Fits (spinodals_numbers (liquid_on vapor (stability_on n o)))
-unfolding liquid_on stability_on spinodals_numbers
+unfolding liquid_on onward spinodals_numbers
 liquid_fits vapor n (Break (Ok l)) h = ended_fits _
 liquid_fits vapor n (Break (Err r)) h = ended_fits _
 liquid_fits vapor zero (Continue ρ) h = ended_fits _
 liquid_fits vapor (suc n) (Continue ρ) h = asks_fits 3 0 0 n _ _ (omega arith) (omega arith) (omega arith) (omega arith)
 
 vapor_fits : (critical : Float) (n : ℕ) (o : Progress Float) → n < 50 → Fits (spinodals_numbers (vapor_on critical (stability_on n o)))
-unfolding vapor_on stability_on stability_start spinodals_numbers
+unfolding vapor_on onward stability_start spinodals_numbers
 vapor_fits critical n (Break (Ok v)) h = asks_fits 3 0 0 49 _ _ (omega arith) (omega arith) (omega arith) (omega arith)
 vapor_fits critical n (Break (Err r)) h = ended_fits _
 vapor_fits critical zero (Continue ρ) h = ended_fits _

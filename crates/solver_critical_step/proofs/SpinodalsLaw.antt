@@ -14,26 +14,26 @@ use Rattle.solver_critical.specs.Spinodal.{spinodal_start, spinodal_from, calcul
 use Rattle.solver.proofs.Turns.{led}
 use Rattle.solver_critical.proofs.Settles.{stability_led_lem}
 use Rattle.solver_critical_step.specs.declared.types.CriticalSpot.{CriticalSpot}
-use Rattle.solver_critical_step.specs.declared.types.StabilitySpot.{StabilitySpot}
+use Rattle.solver.specs.Rounds.{onward}
 use Rattle.solver_critical_step.specs.declared.types.SpinodalsSpot.{SpinodalsSpot}
 use Rattle.solver_critical_step.specs.declared.types.SpinodalsSpot.TheVariants.{CriticalSearch, VaporSpinodal, LiquidSpinodal}
 use Rattle.solver_critical_step.specs.CriticalStep.{critical_at, critical_begin, resume_critical, critical_left}
-use Rattle.solver_critical_step.specs.SpinodalsStep.{stability_on, stability_start, resume_stability, stability_left, stability_next, spinodals_at, liquid_on, vapor_on, critical_on, spinodals_begin, resume_spinodals, spinodals_left, spinodals_next}
+use Rattle.solver_critical_step.specs.SpinodalsStep.{StabilitySpot, stability_on, stability_start, resume_stability, stability_left, stability_next, spinodals_at, liquid_on, vapor_on, critical_on, spinodals_begin, resume_spinodals, spinodals_left, spinodals_next}
 use Rattle.solver_critical_step.proofs.CriticalLaw.{critical_law, critical_asks, critical_begins}
 
 module _ (maxdensity t : Float) where
   -- ---- calculate_spinodal
   stability_on_lem : (n : ℕ) (o : Progress Float) → stability_left maxdensity t (stability_on n o) ≡ settled (led o (spinodal_from maxdensity t n))
-  unfolding stability_left resume_stability stability_on settle led spinodal_from
+  unfolding stability_left resume_stability onward settle led spinodal_from
   stability_on_lem n (Break a) = refl
   stability_on_lem zero (Continue ρ) = refl
   stability_on_lem (suc n) (Continue ρ) = refl
 
   stability_law : (ev : Evaluator) (s : StabilitySpot) (n : ℕ) (d : Float)
-      → next_of finite_of ev (resume_stability maxdensity t s) n d ≡ moved n s.rho (stability_left maxdensity t (stability_next maxdensity t ev s))
+      → next_of finite_of ev (resume_stability maxdensity t s) n d ≡ moved n s.at (stability_left maxdensity t (stability_next maxdensity t ev s))
   unfolding next_of resume_stability spinodal_from stability_next
   stability_law ev s n d =
-      ap (moved n s.rho) (stability_led_lem maxdensity s.rho (ev (stability t s.rho)) (spinodal_from maxdensity t s.rounds) ∙ sym (stability_on_lem s.rounds _))
+      ap (moved n s.at) (stability_led_lem maxdensity s.at (ev (stability t s.at)) (spinodal_from maxdensity t s.rounds) ∙ sym (stability_on_lem s.rounds _))
 
   -- ---- kind 6
   liquid_on_lem : (vapor : Float) (x : Progress StabilitySpot) → spinodals_left maxdensity t (liquid_on vapor x) ≡ settled (and_then (stability_left maxdensity t x) (after_liquid maxdensity t vapor))
@@ -64,11 +64,11 @@ module _ (maxdensity t : Float) where
       next_bind finite_of ev (resume_critical maxdensity ρ s) _ n d _ (critical_at s) (critical_law maxdensity ρ ev s n d)
       ∙ ap (moved n (critical_at s)) (sym (critical_on_lem _))
   spinodals_law ev (VaporSpinodal critical s) n d =
-      next_bind finite_of ev (resume_stability maxdensity t s) _ n d _ s.rho (stability_law ev s n d)
-      ∙ ap (moved n s.rho) (sym (vapor_on_lem critical _))
+      next_bind finite_of ev (resume_stability maxdensity t s) _ n d _ s.at (stability_law ev s n d)
+      ∙ ap (moved n s.at) (sym (vapor_on_lem critical _))
   spinodals_law ev (LiquidSpinodal vapor s) n d =
-      next_bind finite_of ev (resume_stability maxdensity t s) _ n d _ s.rho (stability_law ev s n d)
-      ∙ ap (moved n s.rho) (sym (liquid_on_lem vapor _))
+      next_bind finite_of ev (resume_stability maxdensity t s) _ n d _ s.at (stability_law ev s n d)
+      ∙ ap (moved n s.at) (sym (liquid_on_lem vapor _))
 
   pub spinodals_begins : spinodals_left maxdensity t (spinodals_begin maxdensity) ≡ settled (spinodal maxdensity t)
   unfolding spinodals_begin spinodal

@@ -1,6 +1,6 @@
 -- Kinds 5 and 7 one evaluation at a time: what is left at a spot, and where its evaluation leads. Definitions only.
 use Rattle.std.specs.declared.option.Option.TheVariants.{None, Some}
-use Rattle.std.specs.Prelude.{ℕ, zero, suc, cond, ltb, drop, length, Float}
+use Rattle.std.specs.Prelude.{ℕ, suc, cond, ltb, drop, length, Float}
 use Rattle.solver.specs.declared.types.Refusal.TheVariants.{NotConverged}
 use Rattle.std.specs.Prelude.{Ok, Err}
 use Rattle.solver.specs.Search.{Evaluator, Search, done, bind, criticality}
@@ -10,26 +10,29 @@ use Rattle.solver_critical.specs.declared.types.Point.{Point}
 use Rattle.std.specs.declared.ops.ControlFlow.TheVariants.{Break, Continue}
 use Rattle.solver_critical.specs.CriticalPoint.{or_else, trial_temperatures, trial_temperature, hkm_from, trials}
 use Rattle.solver_critical.specs.Rounds.{critical_round}
-use Rattle.solver_critical_step.specs.declared.types.HkmSpot.{HkmSpot}
+use Rattle.solver.specs.declared.types.Spot.{Spot}
+use Rattle.solver.specs.Rounds.{onward}
 use Rattle.solver_critical_step.specs.declared.types.CriticalSpot.{CriticalSpot}
 use Rattle.solver_critical_step.specs.declared.types.CriticalSpot.TheVariants.{Given, Trial}
 
 -- ---- critical_point_hkm
 
+-- the rounds left after this one, and the point
+abbrev pub HkmSpot : Type 0
+HkmSpot = Spot Point
+
 -- with n rounds left, where a round leads
-unfoldable pub hkm_on : ℕ → Progress Point → Progress HkmSpot
-hkm_on n (Break a) = Break a
-hkm_on zero (Continue p) = Break (Err NotConverged)
-hkm_on (suc n) (Continue p) = Continue (record { rounds = n; p = p })
+abbrev pub hkm_on : ℕ → Progress Point → Progress HkmSpot
+hkm_on n o = onward n NotConverged o
 
 -- where a search begins
 unfoldable pub hkm_start : (t ρ : Float) → HkmSpot
-hkm_start t ρ = record { rounds = 49; p = record { t = t; rho = ρ } }
+hkm_start t ρ = record { rounds = 49; at = record { t = t; rho = ρ } }
 
 module _ (maxdensity : Float) where
   -- the search that is left
   unfoldable pub resume_hkm : HkmSpot → Search
-  resume_hkm s = hkm_from maxdensity (suc s.rounds) s.p
+  resume_hkm s = hkm_from maxdensity (suc s.rounds) s.at
 
   unfoldable pub hkm_left : Progress HkmSpot → Search
   hkm_left (Break a) = done a
@@ -37,14 +40,14 @@ module _ (maxdensity : Float) where
 
   -- the one evaluation, and where it leads
   unfoldable pub hkm_next : Evaluator → HkmSpot → Progress HkmSpot
-  hkm_next ev s = hkm_on s.rounds (critical_round maxdensity s.p (ev (criticality s.p.t s.p.rho)))
+  hkm_next ev s = hkm_on s.rounds (critical_round maxdensity s.at (ev (criticality s.at.t s.at.rho)))
 
 -- ---- kinds 5 and 7
 
 -- the density of the spot's evaluation
 unfoldable pub critical_at : CriticalSpot → Float
-critical_at (Given s) = s.p.rho
-critical_at (Trial i s) = s.p.rho
+critical_at (Given s) = s.at.rho
+critical_at (Trial i s) = s.at.rho
 
 unfoldable pub given_on : Progress HkmSpot → Progress CriticalSpot
 given_on (Break a) = Break a

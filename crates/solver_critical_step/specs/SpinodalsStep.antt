@@ -1,5 +1,5 @@
 -- Kind 6 one evaluation at a time: what is left at a spot, and where its evaluation leads. Definitions only.
-use Rattle.std.specs.Prelude.{ℕ, zero, suc, Float}
+use Rattle.std.specs.Prelude.{ℕ, suc, Float}
 use Rattle.solver.specs.declared.types.DensityInitialization.TheVariants.{Vapor}
 use Rattle.solver.specs.declared.types.Refusal.TheVariants.{Supercritical}
 use Rattle.std.specs.Prelude.{Ok, Err}
@@ -11,27 +11,30 @@ use Rattle.solver_critical.specs.CriticalPoint.{start_density}
 use Rattle.solver_critical.specs.Spinodal.{both_answer, spinodal_start, liquid_start, spinodal_from, after_liquid, after_vapor, after_critical}
 use Rattle.solver_critical.specs.Rounds.{stability_round}
 use Rattle.solver_critical_step.specs.declared.types.CriticalSpot.{CriticalSpot}
-use Rattle.solver_critical_step.specs.declared.types.StabilitySpot.{StabilitySpot}
+use Rattle.solver.specs.declared.types.Spot.{Spot}
+use Rattle.solver.specs.Rounds.{onward}
 use Rattle.solver_critical_step.specs.declared.types.SpinodalsSpot.{SpinodalsSpot}
 use Rattle.solver_critical_step.specs.declared.types.SpinodalsSpot.TheVariants.{CriticalSearch, VaporSpinodal, LiquidSpinodal}
 use Rattle.solver_critical_step.specs.CriticalStep.{critical_at, critical_begin, resume_critical, critical_next}
 
 -- ---- calculate_spinodal
 
+-- the rounds left after this one, and the density
+abbrev pub StabilitySpot : Type 0
+StabilitySpot = Spot Float
+
 -- with n rounds left, where a round leads
-unfoldable pub stability_on : ℕ → Progress Float → Progress StabilitySpot
-stability_on n (Break a) = Break a
-stability_on zero (Continue ρ) = Break (Err Supercritical)
-stability_on (suc n) (Continue ρ) = Continue (record { rounds = n; rho = ρ })
+abbrev pub stability_on : ℕ → Progress Float → Progress StabilitySpot
+stability_on n o = onward n Supercritical o
 
 -- where a search begins
 unfoldable pub stability_start : (ρ : Float) → StabilitySpot
-stability_start ρ = record { rounds = 49; rho = ρ }
+stability_start ρ = record { rounds = 49; at = ρ }
 
 module _ (maxdensity t : Float) where
   -- the search that is left
   unfoldable pub resume_stability : StabilitySpot → Search
-  resume_stability s = spinodal_from maxdensity t (suc s.rounds) s.rho
+  resume_stability s = spinodal_from maxdensity t (suc s.rounds) s.at
 
   unfoldable pub stability_left : Progress StabilitySpot → Search
   stability_left (Break a) = done a
@@ -39,15 +42,15 @@ module _ (maxdensity t : Float) where
 
   -- the one evaluation, and where it leads
   unfoldable pub stability_next : Evaluator → StabilitySpot → Progress StabilitySpot
-  stability_next ev s = stability_on s.rounds (stability_round maxdensity s.rho (ev (stability t s.rho)))
+  stability_next ev s = stability_on s.rounds (stability_round maxdensity s.at (ev (stability t s.at)))
 
 -- ---- kind 6
 
 -- the density of the spot's evaluation
 unfoldable pub spinodals_at : SpinodalsSpot → Float
 spinodals_at (CriticalSearch s) = critical_at s
-spinodals_at (VaporSpinodal critical s) = s.rho
-spinodals_at (LiquidSpinodal vapor s) = s.rho
+spinodals_at (VaporSpinodal critical s) = s.at
+spinodals_at (LiquidSpinodal vapor s) = s.at
 
 -- where a part stands, or what it leads to
 unfoldable pub liquid_on : (vapor : Float) → Progress StabilitySpot → Progress SpinodalsSpot

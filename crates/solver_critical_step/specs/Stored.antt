@@ -3,12 +3,12 @@ use Rattle.std.specs.Prelude.{ℕ, cond, eqb, Float}
 use Rattle.float.specs.Ops.{f0}
 use Rattle.solver.specs.declared.types.Numbers.{Numbers}
 use Rattle.solver.specs.Stored.{answer_by, ended_numbers}
-use Rattle.solver_critical_step.specs.declared.types.HkmSpot.{HkmSpot}
+use Rattle.solver_critical_step.specs.CriticalStep.{HkmSpot}
 use Rattle.solver_critical_step.specs.declared.types.CriticalSpot.{CriticalSpot}
 use Rattle.solver_critical_step.specs.declared.types.CriticalSpot.TheVariants.{Given, Trial}
 use Rattle.solver.specs.Answer.{Progress}
 use Rattle.std.specs.declared.ops.ControlFlow.TheVariants.{Break, Continue}
-use Rattle.solver_critical_step.specs.declared.types.StabilitySpot.{StabilitySpot}
+use Rattle.solver_critical_step.specs.SpinodalsStep.{StabilitySpot}
 use Rattle.solver_critical_step.specs.declared.types.SpinodalsSpot.{SpinodalsSpot}
 use Rattle.solver_critical_step.specs.declared.types.SpinodalsSpot.TheVariants.{CriticalSearch, VaporSpinodal, LiquidSpinodal}
 
@@ -22,15 +22,15 @@ spot_numbers stage tag way rounds x y =
 
 -- ---- kinds 5 and 7: tag 0 is the end, 1 a round from a given temperature, any other a trial's, and `way` says which trial
 unfoldable pub critical_spot_numbers : (stage : ℕ) → CriticalSpot → Numbers
-critical_spot_numbers stage (Given s) = spot_numbers stage 1 0 s.rounds s.p.t s.p.rho
-critical_spot_numbers stage (Trial i s) = spot_numbers stage 2 i s.rounds s.p.t s.p.rho
+critical_spot_numbers stage (Given s) = spot_numbers stage 1 0 s.rounds s.at.t s.at.rho
+critical_spot_numbers stage (Trial i s) = spot_numbers stage 2 i s.rounds s.at.t s.at.rho
 
 unfoldable pub critical_numbers : Progress CriticalSpot → Numbers
 critical_numbers (Break a) = ended_numbers a
 critical_numbers (Continue s) = critical_spot_numbers 0 s
 
 unfoldable pub hkm_spot_by : Numbers → HkmSpot
-hkm_spot_by n = record { rounds = n.counters.rounds; p = record { t = n.values.first; rho = n.values.second } }
+hkm_spot_by n = record { rounds = n.counters.rounds; at = record { t = n.values.first; rho = n.values.second } }
 
 unfoldable pub critical_spot_by : Numbers → CriticalSpot
 critical_spot_by n = cond (eqb n.counters.tag 1) (Given (hkm_spot_by n)) (Trial n.counters.way (hkm_spot_by n))
@@ -42,11 +42,11 @@ critical_place_by n = cond (eqb n.counters.tag 0) (Break (answer_by n.counters.s
 unfoldable pub spinodals_numbers : Progress SpinodalsSpot → Numbers
 spinodals_numbers (Break a) = ended_numbers a
 spinodals_numbers (Continue (CriticalSearch s)) = critical_spot_numbers 1 s
-spinodals_numbers (Continue (VaporSpinodal critical s)) = spot_numbers 2 0 0 s.rounds s.rho critical
-spinodals_numbers (Continue (LiquidSpinodal vapor s)) = spot_numbers 3 0 0 s.rounds s.rho vapor
+spinodals_numbers (Continue (VaporSpinodal critical s)) = spot_numbers 2 0 0 s.rounds s.at critical
+spinodals_numbers (Continue (LiquidSpinodal vapor s)) = spot_numbers 3 0 0 s.rounds s.at vapor
 
 unfoldable pub stability_spot_by : Numbers → StabilitySpot
-stability_spot_by n = record { rounds = n.counters.rounds; rho = n.values.first }
+stability_spot_by n = record { rounds = n.counters.rounds; at = n.values.first }
 
 unfoldable pub spinodals_spot_by : Numbers → SpinodalsSpot
 spinodals_spot_by n =

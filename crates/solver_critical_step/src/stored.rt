@@ -7,40 +7,39 @@ use solver::{Counters, Numbers, Progress, Values};
 use solver_critical::Point;
 use std::ops::ControlFlow;
 
+#[tactic(auto, unfolding(crate::specs::Stored::spot_numbers))]
 fn spot_numbers(stage: u64, tag: u64, way: u64, rounds: u64, x: f64, y: f64) -> Numbers
     ensures { result ≡ spot_numbers stage tag way rounds x y }
 {
-    let counters = Counters {
-        stage,
-        tag,
-        status: 0,
-        left: 0,
-        way,
-        rounds,
-    };
-    let values = Values {
-        first: x,
-        second: y,
-        third: 0.0,
-    };
-    Numbers { counters, values }
+    Numbers {
+        counters: Counters {
+            stage,
+            tag,
+            way,
+            rounds,
+            ..Counters::default()
+        },
+        values: Values {
+            first: x,
+            second: y,
+            third: 0.0,
+        },
+    }
 }
 
+#[tactic(auto, unfolding(crate::specs::Stored::critical_spot_numbers))]
 fn critical_spot_numbers(stage: u64, spot: CriticalSpot) -> Numbers
     ensures { result ≡ critical_spot_numbers stage spot }
 {
     match spot {
-        CriticalSpot::Given(at) => {
-            let p = at.p;
-            spot_numbers(stage, 1, 0, at.rounds, p.t, p.rho)
-        }
+        CriticalSpot::Given(at) => spot_numbers(stage, 1, 0, at.rounds, at.at.t, at.at.rho),
         CriticalSpot::Trial { trial, at } => {
-            let p = at.p;
-            spot_numbers(stage, 2, trial, at.rounds, p.t, p.rho)
+            spot_numbers(stage, 2, trial, at.rounds, at.at.t, at.at.rho)
         }
     }
 }
 
+#[tactic(auto, unfolding(crate::specs::Stored::critical_numbers))]
 pub fn critical_numbers(place: Progress<CriticalSpot>) -> Numbers
     ensures { result ≡ critical_numbers place }
 {
@@ -50,103 +49,92 @@ pub fn critical_numbers(place: Progress<CriticalSpot>) -> Numbers
     }
 }
 
+#[tactic(auto, unfolding(crate::specs::Stored::hkm_spot_by))]
 fn hkm_spot_by(n: Numbers) -> HkmSpot
     ensures { result ≡ hkm_spot_by n }
 {
-    let counters = n.counters;
-    let values = n.values;
-    let p = Point {
-        t: values.first,
-        rho: values.second,
-    };
     HkmSpot {
-        rounds: counters.rounds,
-        p,
+        rounds: n.counters.rounds,
+        at: Point {
+            t: n.values.first,
+            rho: n.values.second,
+        },
     }
 }
 
+#[tactic(auto, unfolding(crate::specs::Stored::critical_spot_by))]
 fn critical_spot_by(n: Numbers) -> CriticalSpot
     ensures { result ≡ critical_spot_by n }
 {
-    let counters = n.counters;
     let at = hkm_spot_by(n);
-    if counters.tag == 1 {
-        return CriticalSpot::Given(at);
-    }
-    CriticalSpot::Trial {
-        trial: counters.way,
-        at,
+    match n.counters.tag {
+        1 => CriticalSpot::Given(at),
+        _ => CriticalSpot::Trial {
+            trial: n.counters.way,
+            at,
+        },
     }
 }
 
+#[tactic(auto, unfolding(crate::specs::Stored::critical_place_by))]
 pub fn critical_place_by(n: Numbers) -> Progress<CriticalSpot>
     ensures { result ≡ critical_place_by n }
 {
-    let counters = n.counters;
-    let values = n.values;
-    if counters.tag == 0 {
-        return ControlFlow::Break(solver::answer_by(counters.status, values));
+    match n.counters.tag {
+        0 => ControlFlow::Break(solver::answer_by(n.counters.status, n.values)),
+        _ => ControlFlow::Continue(critical_spot_by(n)),
     }
-    ControlFlow::Continue(critical_spot_by(n))
 }
 
+#[tactic(auto, unfolding(crate::specs::Stored::spinodals_numbers))]
 pub fn spinodals_numbers(place: Progress<SpinodalsSpot>) -> Numbers
     ensures { result ≡ spinodals_numbers place }
 {
     match place {
         ControlFlow::Break(answer) => solver::ended_numbers(answer),
-        ControlFlow::Continue(spot) => match spot {
-            SpinodalsSpot::CriticalSearch(at) => critical_spot_numbers(1, at),
-            SpinodalsSpot::VaporSpinodal { critical, at } => {
-                spot_numbers(2, 0, 0, at.rounds, at.rho, critical)
-            }
-            SpinodalsSpot::LiquidSpinodal { vapor, at } => {
-                spot_numbers(3, 0, 0, at.rounds, at.rho, vapor)
-            }
+        ControlFlow::Continue(SpinodalsSpot::CriticalSearch(at)) => critical_spot_numbers(1, at),
+        ControlFlow::Continue(SpinodalsSpot::VaporSpinodal { critical, at }) => {
+            spot_numbers(2, 0, 0, at.rounds, at.at, critical)
+        }
+        ControlFlow::Continue(SpinodalsSpot::LiquidSpinodal { vapor, at }) => {
+            spot_numbers(3, 0, 0, at.rounds, at.at, vapor)
+        }
+    }
+}
+
+#[tactic(auto, unfolding(crate::specs::Stored::stability_spot_by))]
+fn stability_spot_by(n: Numbers) -> StabilitySpot
+    ensures { result ≡ stability_spot_by n }
+{
+    StabilitySpot {
+        rounds: n.counters.rounds,
+        at: n.values.first,
+    }
+}
+
+#[tactic(auto, unfolding(crate::specs::Stored::spinodals_spot_by))]
+fn spinodals_spot_by(n: Numbers) -> SpinodalsSpot
+    ensures { result ≡ spinodals_spot_by n }
+{
+    match n.counters.stage {
+        1 => SpinodalsSpot::CriticalSearch(critical_spot_by(n)),
+        2 => SpinodalsSpot::VaporSpinodal {
+            critical: n.values.second,
+            at: stability_spot_by(n),
+        },
+        _ => SpinodalsSpot::LiquidSpinodal {
+            vapor: n.values.second,
+            at: stability_spot_by(n),
         },
     }
 }
 
-fn stability_spot_by(n: Numbers) -> StabilitySpot
-    ensures { result ≡ stability_spot_by n }
-{
-    let counters = n.counters;
-    let values = n.values;
-    StabilitySpot {
-        rounds: counters.rounds,
-        rho: values.first,
-    }
-}
-
-fn spinodals_spot_by(n: Numbers) -> SpinodalsSpot
-    ensures { result ≡ spinodals_spot_by n }
-{
-    let counters = n.counters;
-    let values = n.values;
-    let stage = counters.stage;
-    if stage == 1 {
-        return SpinodalsSpot::CriticalSearch(critical_spot_by(n));
-    }
-    let at = stability_spot_by(n);
-    if stage == 2 {
-        return SpinodalsSpot::VaporSpinodal {
-            critical: values.second,
-            at,
-        };
-    }
-    SpinodalsSpot::LiquidSpinodal {
-        vapor: values.second,
-        at,
-    }
-}
-
+#[tactic(auto, unfolding(crate::specs::Stored::spinodals_place_by))]
 pub fn spinodals_place_by(n: Numbers) -> Progress<SpinodalsSpot>
     ensures { result ≡ spinodals_place_by n }
 {
-    let counters = n.counters;
-    let values = n.values;
-    if counters.stage == 0 {
-        return ControlFlow::Break(solver::answer_by(counters.status, values));
+    match n.counters.stage {
+        0 => ControlFlow::Break(solver::answer_by(n.counters.status, n.values)),
+        _ => ControlFlow::Continue(spinodals_spot_by(n)),
     }
-    ControlFlow::Continue(spinodals_spot_by(n))
 }

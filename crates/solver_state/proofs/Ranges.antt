@@ -25,8 +25,7 @@ use Rattle.solver_critical_step.specs.declared.types.CriticalSpot.{CriticalSpot}
 use Rattle.solver_critical_step.specs.declared.types.SpinodalsSpot.{SpinodalsSpot}
 use Rattle.solver_critical_step.specs.Stored.{critical_spot_numbers, critical_numbers, critical_spot_by, critical_place_by, hkm_spot_by, spinodals_numbers, stability_spot_by, spinodals_spot_by, spinodals_place_by}
 use Rattle.solver_critical_step.proofs.Ranges.{asks_fits, critical_kept, critical_begin_fits, spinodals_kept, spinodals_begin_fits}
-use Rattle.solver_binary_step.specs.declared.types.TemperatureSpot.{TemperatureSpot}
-use Rattle.solver_binary_step.specs.declared.types.PressureSpot.{PressureSpot}
+use Rattle.solver_binary_step.specs.BinaryStep.{TemperatureSpot, PressureSpot}
 use Rattle.solver_binary_step.specs.Stored.{temperature_numbers, temperature_spot_by, temperature_place_by, pressure_numbers, pressure_spot_by, pressure_place_by}
 use Rattle.solver_binary_step.proofs.Ranges as Binary
 use Rattle.solver_state.specs.declared.types.Job.{Job}

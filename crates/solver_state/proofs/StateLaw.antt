@@ -35,9 +35,7 @@ use Rattle.solver_critical_step.specs.Stored.{critical_numbers, critical_place_b
 use Rattle.solver_critical_step.proofs.CriticalLaw.{critical_law, critical_begins}
 use Rattle.solver_critical_step.proofs.SpinodalsLaw.{spinodals_law, spinodals_begins}
 use Rattle.solver_critical_step.proofs.StoredBack.{critical_back, spinodals_back}
-use Rattle.solver_binary_step.specs.declared.types.TemperatureSpot.{TemperatureSpot}
-use Rattle.solver_binary_step.specs.declared.types.PressureSpot.{PressureSpot}
-use Rattle.solver_binary_step.specs.BinaryStep.{temperature_left, temperature_at, temperature_begin, pressure_left, pressure_at, pressure_begin}
+use Rattle.solver_binary_step.specs.BinaryStep.{TemperatureSpot, PressureSpot, temperature_left, temperature_at, temperature_begin, pressure_left, pressure_at, pressure_begin}
 use Rattle.solver_binary_step.specs.Stored.{temperature_numbers, temperature_place_by, pressure_numbers, pressure_place_by}
 use Rattle.solver_binary_step.proofs.BinaryLaw.{temperature_law, temperature_begins, pressure_law, pressure_begins}
 use Rattle.solver_binary_step.proofs.StoredBack.{temperature_back, pressure_back}

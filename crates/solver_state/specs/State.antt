@@ -26,9 +26,7 @@ use Rattle.solver_critical_step.specs.declared.types.SpinodalsSpot.{SpinodalsSpo
 use Rattle.solver_critical_step.specs.CriticalStep.{critical_left, critical_at, critical_next, critical_begin}
 use Rattle.solver_critical_step.specs.SpinodalsStep.{spinodals_left, spinodals_at, spinodals_next, spinodals_begin}
 use Rattle.solver_critical_step.specs.Stored.{critical_numbers, critical_place_by, spinodals_numbers, spinodals_place_by}
-use Rattle.solver_binary_step.specs.declared.types.TemperatureSpot.{TemperatureSpot}
-use Rattle.solver_binary_step.specs.declared.types.PressureSpot.{PressureSpot}
-use Rattle.solver_binary_step.specs.BinaryStep.{temperature_left, temperature_at, temperature_next, temperature_begin, pressure_left, pressure_at, pressure_next, pressure_begin}
+use Rattle.solver_binary_step.specs.BinaryStep.{TemperatureSpot, PressureSpot, temperature_left, temperature_at, temperature_next, temperature_begin, pressure_left, pressure_at, pressure_next, pressure_begin}
 use Rattle.solver_binary_step.specs.Stored.{temperature_numbers, temperature_place_by, pressure_numbers, pressure_place_by}
 use Rattle.solver_state.specs.declared.types.Job.{Job}
 use Rattle.solver_state.specs.declared.types.Job.TheVariants.{Density, StableDensity, PressureSpinodal, BranchSpinodal, CriticalPoint, StabilitySpinodals, CriticalPointBinaryT, CriticalPointBinaryP}

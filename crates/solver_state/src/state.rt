@@ -10,6 +10,7 @@ use solver::Numbers;
 use solver_density::{Branch, Conditions};
 use std::ops::ControlFlow;
 
+#[tactic(auto, unfolding(crate::specs::State::begin_of))]
 fn begin(job: Job) -> Numbers
     ensures { result ≡ begin_of job }
 {
@@ -23,15 +24,13 @@ fn begin(job: Job) -> Numbers
             let place = solver_step::stable_begin(maxdensity, temperature, pressure);
             solver_step::stable_numbers(place)
         }
-        Job::PressureSpinodal {
-            maxdensity: _,
-            temperature: _,
-            start,
-        } => solver_step::spinodal_numbers(solver_step::spinodal_start(start)),
+        Job::PressureSpinodal { start, .. } => solver_step::spinodal_numbers(
+            solver_step::spinodal_start(start),
+        ),
         Job::BranchSpinodal {
             maxdensity,
-            temperature: _,
             branch,
+            ..
         } => solver_step::spinodal_numbers(solver_step::branch_begin(maxdensity, branch)),
         Job::CriticalPoint {
             maxdensity,
@@ -42,10 +41,7 @@ fn begin(job: Job) -> Numbers
             let place = solver_critical_step::critical_begin(rho, temperature);
             solver_critical_step::critical_numbers(place)
         }
-        Job::StabilitySpinodals {
-            maxdensity,
-            temperature: _,
-        } => {
+        Job::StabilitySpinodals { maxdensity, .. } => {
             let place = solver_critical_step::spinodals_begin(maxdensity);
             solver_critical_step::spinodals_numbers(place)
         }
@@ -53,8 +49,8 @@ fn begin(job: Job) -> Numbers
             maxdensity,
             z0,
             z1,
-            temperature: _,
             density,
+            ..
         } => {
             let place = solver_binary_step::temperature_begin(maxdensity, z0, z1, density);
             solver_binary_step::temperature_numbers(place)
@@ -63,9 +59,9 @@ fn begin(job: Job) -> Numbers
             maxdensity,
             z0,
             z1,
-            pressure: _,
             temperature,
             density,
+            ..
         } => {
             let place = solver_binary_step::pressure_begin(
                 maxdensity,
@@ -80,6 +76,7 @@ fn begin(job: Job) -> Numbers
 }
 
 // a search before its first evaluation
+#[tactic(auto, unfolding(crate::specs::State::start_of))]
 pub fn start(job: Job) -> State
     ensures { result ≡ start_of job }
 {
@@ -141,7 +138,7 @@ pub fn step(blend: Blend, job: Job, state: State) -> State
         Job::PressureSpinodal {
             maxdensity,
             temperature,
-            start: _,
+            ..
         } => stepped(solver_step::spinodal_place_by(numbers), state, |spot| {
             let next = solver_step::spinodal_next(blend, maxdensity, temperature, spot);
             (solver_step::spinodal_numbers(next), spot.at)
@@ -156,8 +153,8 @@ pub fn step(blend: Blend, job: Job, state: State) -> State
         }),
         Job::CriticalPoint {
             maxdensity,
-            temperature: _,
             density,
+            ..
         } => stepped(
             solver_critical_step::critical_place_by(numbers),
             state,
@@ -191,10 +188,8 @@ pub fn step(blend: Blend, job: Job, state: State) -> State
         ),
         Job::CriticalPointBinaryT {
             maxdensity,
-            z0: _,
-            z1: _,
             temperature,
-            density: _,
+            ..
         } => stepped(
             solver_binary_step::temperature_place_by(numbers),
             state,
@@ -213,11 +208,8 @@ pub fn step(blend: Blend, job: Job, state: State) -> State
         ),
         Job::CriticalPointBinaryP {
             maxdensity,
-            z0: _,
-            z1: _,
             pressure,
-            temperature: _,
-            density: _,
+            ..
         } => stepped(
             solver_binary_step::pressure_place_by(numbers),
             state,

@@ -3,7 +3,7 @@ use solver::Numbers;
 use solver_density::{Branch, Conditions};
 
 // What the search of each kind works with beside the blend, z0 and z1 being the fractions.
-#[derive(Clone, Copy)]
+#[derive(Clone, Copy, PartialEq)]
 pub enum Job {
     Density(Conditions),
     StableDensity {
@@ -48,7 +48,7 @@ pub enum Job {
 }
 
 // Where a search stands, the evaluations made, and the density of the latest one (+0 before any).
-#[derive(Clone, Copy)]
+#[derive(Clone, Copy, PartialEq)]
 pub struct State {
     pub numbers: Numbers,
     pub evaluations: u64,

@@ -20,9 +20,8 @@ use Rattle.solver.specs.Answer.{Progress}
 use Rattle.std.specs.declared.ops.ControlFlow.TheVariants.{Break, Continue}
 use Rattle.solver_binary.specs.CriticalPointBinary.{start_densities, answer_t, reduced_t, step_t, start_temperature, start_unknowns, answer_p, reduced_p, step_p, solved_p, converged_p}
 use Rattle.solver_binary.specs.Rounds.{stepped_t, solved_round_t, round_t, finite12, stepped_p, solved_round_p, round_p}
-use Rattle.solver_binary_step.specs.declared.types.TemperatureSpot.{TemperatureSpot}
-use Rattle.solver_binary_step.specs.declared.types.PressureSpot.{PressureSpot}
-use Rattle.solver_binary_step.specs.BinaryStep.{temperature_on, temperature_begin, temperature_at, temperature_next, pressure_on, pressure_begin, pressure_at, pressure_next}
+use Rattle.solver.specs.Rounds.{onward}
+use Rattle.solver_binary_step.specs.BinaryStep.{TemperatureSpot, PressureSpot, temperature_on, temperature_begin, temperature_at, temperature_next, pressure_on, pressure_begin, pressure_at, pressure_next}
 use Rattle.solver_binary_step.specs.Stored.{spot_numbers, temperature_numbers, temperature_place_by, pressure_numbers, pressure_place_by}
 use Rattle.solver_state.specs.declared.types.State.{State}
 use Rattle.solver_state.specs.declared.types.Job.TheVariants.{CriticalPointBinaryT, CriticalPointBinaryP}
@@ -55,7 +54,7 @@ unfolding round_t values_of
 round_held_t maxdensity p y = cond_keeps HeldT (all_finite (entries y)) _ _ (solved_held_t maxdensity p y (solved y)) none
 
 on_held_t : (n : ℕ) (o : Progress Densities) → HeldT o → ValuesStorable (temperature_numbers (temperature_on n o)).values
-unfolding temperature_on temperature_numbers spot_numbers ended_numbers values_of
+unfolding onward temperature_numbers spot_numbers ended_numbers values_of
 on_held_t n (Break a) h = h
 on_held_t zero (Continue p) h = none
 on_held_t (suc n) (Continue p) h = h
@@ -103,7 +102,7 @@ unfolding round_p values_of
 round_held_p maxdensity p y = cond_keeps HeldP (finite12 y) _ _ (solved_held_p maxdensity p y (solved_p y)) none
 
 on_held_p : (n : ℕ) (o : Progress Unknowns) → HeldP o → ValuesStorable (pressure_numbers (pressure_on n o)).values
-unfolding pressure_on pressure_numbers spot_numbers ended_numbers values_of
+unfolding onward pressure_numbers spot_numbers ended_numbers values_of
 on_held_p n (Break a) h = h
 on_held_p zero (Continue p) h = none
 on_held_p (suc n) (Continue p) h = h

@@ -27,6 +27,7 @@ use Rattle.solver_critical.specs.Rounds.{all_finite, stepped_round, solved_round
 use Rattle.solver_critical_step.specs.declared.types.CriticalSpot.{CriticalSpot}
 use Rattle.solver_critical_step.specs.declared.types.CriticalSpot.TheVariants.{Given, Trial}
 use Rattle.solver_critical_step.specs.declared.types.SpinodalsSpot.{SpinodalsSpot}
+use Rattle.solver.specs.Rounds.{onward}
 use Rattle.solver_critical_step.specs.CriticalStep.{hkm_on, hkm_start, hkm_next, critical_at, given_on, trial_at, trial_on, critical_begin, critical_next}
 use Rattle.solver_critical_step.specs.SpinodalsStep.{stability_on, stability_start, stability_next, spinodals_at, liquid_on, vapor_on, critical_on, spinodals_begin, spinodals_next}
 use Rattle.solver_critical_step.specs.Stored.{spot_numbers, critical_spot_numbers, critical_numbers, hkm_spot_by, critical_spot_by, critical_place_by, spinodals_numbers, stability_spot_by, spinodals_spot_by, spinodals_place_by}
@@ -106,7 +107,7 @@ abbrev CriticalHeld : Progress CriticalSpot → Type 0
 CriticalHeld x = ValuesStorable (critical_numbers x).values
 
 given_held : (n : ℕ) (o : Progress Point) → RoundHeld o → CriticalHeld (given_on (hkm_on n o))
-unfolding given_on hkm_on critical_numbers critical_spot_numbers spot_numbers ended_numbers values_of
+unfolding given_on onward critical_numbers critical_spot_numbers spot_numbers ended_numbers values_of
 given_held n (Break a) h = h
 given_held zero (Continue p) h = none
 given_held (suc n) (Continue p) h = h
@@ -124,7 +125,7 @@ module _ (ρ : Float) (h : Fit ρ) where
   trial_at_held i = cond_keeps CriticalHeld (ltb i (length trial_temperatures)) _ _ (two (temperature_held i) h) none
 
   trial_held : (i n : ℕ) (o : Progress Point) → RoundHeld o → CriticalHeld (trial_on ρ i (hkm_on n o))
-  unfolding trial_on hkm_on critical_numbers critical_spot_numbers spot_numbers ended_numbers values_of
+  unfolding trial_on onward critical_numbers critical_spot_numbers spot_numbers ended_numbers values_of
   trial_held i n (Break (Ok v)) g = g
   trial_held i n (Break (Err r)) g = trial_at_held (suc i)
   trial_held i zero (Continue p) g = trial_at_held (suc i)
@@ -132,8 +133,8 @@ module _ (ρ : Float) (h : Fit ρ) where
 
   next_held : (maxdensity : Float) (ev : Evaluator) (s : CriticalSpot) → CriticalHeld (critical_next maxdensity ρ ev s)
   unfolding critical_next hkm_next
-  next_held maxdensity ev (Given s) = given_held s.rounds _ (round_held maxdensity s.p _)
-  next_held maxdensity ev (Trial i s) = trial_held i s.rounds _ (round_held maxdensity s.p _)
+  next_held maxdensity ev (Given s) = given_held s.rounds _ (round_held maxdensity s.at _)
+  next_held maxdensity ev (Trial i s) = trial_held i s.rounds _ (round_held maxdensity s.at _)
 
   begin_held : (temperature : Option Float) → StartFits temperature → CriticalHeld (critical_begin ρ temperature)
   unfolding critical_begin hkm_start critical_numbers critical_spot_numbers spot_numbers
@@ -169,14 +170,14 @@ abbrev SpinodalsHeld : Progress SpinodalsSpot → Type 0
 SpinodalsHeld x = ValuesStorable (spinodals_numbers x).values
 
 liquid_held : (vapor : Float) → Fit vapor → (n : ℕ) (o : Progress Float) → StableHeld o → SpinodalsHeld (liquid_on vapor (stability_on n o))
-unfolding liquid_on stability_on spinodals_numbers spot_numbers ended_numbers both_answer values_of
+unfolding liquid_on onward spinodals_numbers spot_numbers ended_numbers both_answer values_of
 liquid_held vapor h n (Break (Ok l)) g = two h g.first
 liquid_held vapor h n (Break (Err r)) g = none
 liquid_held vapor h zero (Continue ρ) g = none
 liquid_held vapor h (suc n) (Continue ρ) g = two g h
 
 vapor_held : (critical : Float) → Fit critical → (n : ℕ) (o : Progress Float) → StableHeld o → SpinodalsHeld (vapor_on critical (stability_on n o))
-unfolding vapor_on stability_on stability_start liquid_start spinodals_numbers spot_numbers ended_numbers values_of
+unfolding vapor_on onward stability_start liquid_start spinodals_numbers spot_numbers ended_numbers values_of
 vapor_held critical h n (Break (Ok v)) g = two (sub-fits binary64 _ v.first) g.first
 vapor_held critical h n (Break (Err r)) g = none
 vapor_held critical h zero (Continue ρ) g = none

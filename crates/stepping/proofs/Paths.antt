@@ -18,8 +18,7 @@ use Rattle.solver_step.specs.declared.types.DensitySpot.{DensitySpot}
 use Rattle.solver_step.specs.declared.types.StableSpot.{StableSpot}
 use Rattle.solver_critical_step.specs.declared.types.CriticalSpot.{CriticalSpot}
 use Rattle.solver_critical_step.specs.declared.types.SpinodalsSpot.{SpinodalsSpot}
-use Rattle.solver_binary_step.specs.declared.types.TemperatureSpot.{TemperatureSpot}
-use Rattle.solver_binary_step.specs.declared.types.PressureSpot.{PressureSpot}
+use Rattle.solver_binary_step.specs.BinaryStep.{TemperatureSpot, PressureSpot}
 use Rattle.solver_state.specs.declared.types.Job.{Job}
 use Rattle.solver_state.specs.declared.types.Job.TheVariants.{Density, StableDensity, PressureSpinodal, BranchSpinodal, CriticalPoint, StabilitySpinodals, CriticalPointBinaryT, CriticalPointBinaryP}
 use Rattle.solver_state.specs.declared.types.State.{State}
