@@ -105,6 +105,7 @@ fn start_by(work: Work) -> State
 }
 
 // A job before its first evaluation.
+#[tactic(auto, unfolding(crate::specs::Stepping::start_of))]
 pub fn start(job: Job) -> State
     ensures { result ≡ start_of job }
 {
@@ -113,6 +114,7 @@ pub fn start(job: Job) -> State
     start_by(work(blend, task))
 }
 
+#[tactic(auto, unfolding(crate::specs::Stepping::step_by))]
 fn step_by(blend: Blend, work: Work, state: State) -> State
     ensures { result ≡ step_by (evaluated blend) work state }
 {
@@ -138,6 +140,7 @@ fn step_by(blend: Blend, work: Work, state: State) -> State
 }
 
 // One evaluation further, or the same state at an end.
+#[tactic(auto, unfolding(crate::specs::Stepping::step_of))]
 pub fn step(job: Job, state: State) -> State
     ensures { result ≡ step_of job state }
 {
