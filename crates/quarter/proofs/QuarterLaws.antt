@@ -1,6 +1,7 @@
 -- What the code of a quarter does, over plain values: its tickets, its slots, its jobs and its turns. Assumes nothing.
 use Rattle.std.proofs.Common.{◌≡◌, ℕ, zero, suc, ◌+◌, ◌-◌, ◌*◌, ◌%◌, ◌^◌, ◌<◌, ◌≤◌, Bool, true, false, cond, not, ◌&&◌, eqb, ltb, leb, List, take, drop, sym, refl, ap, ◌∙◌, arith, ltb-true, eq-eqb, ne_eqb, eqb-true}
 use borrow.Author.Tests.{eqb-false, not-true}
+use Rattle.std.specs.Prelude.{Option, unwrap_or}
 use Rattle.buf.specs.Bytes.{splice, u64_at}
 use Rattle.buf.proofs.Laws.{num_at_lt, lent_part}
 use Rattle.reader.specs.View.{view}
@@ -34,12 +35,12 @@ job_seen q slot kind n es ek en =
     let lent = lent_part q (1024 + 640 * slot) (1024 + 640 * slot + 640 - (1024 + 640 * slot)) 640 k in
     rw (lent, ek, en, es)
 
-pub job_stepped : (q : List ℕ) (slot kind n : ℕ) (begun : Bool) (stored s : State) → slot ≡ first_slot q → kind ≡ u64_at q (128 + 16 * slot) → n ≡ u64_at q (136 + 16 * slot)
+pub job_stepped : (q : List ℕ) (slot kind n : ℕ) (stored : Option State) (s : State) → slot ≡ first_slot q → kind ≡ u64_at q (128 + 16 * slot) → n ≡ u64_at q (136 + 16 * slot)
     → s
     ≡ step_of (view kind n (take (1024 + 640 * slot + 640 - (1024 + 640 * slot)) (drop (1024 + 640 * slot) q)))
-    (cond begun stored (start_of (view kind n (take (1024 + 640 * slot + 640 - (1024 + 640 * slot)) (drop (1024 + 640 * slot) q)))))
-    → s ≡ step_of (first_job q) (cond begun stored (start_of (first_job q)))
-job_stepped q slot kind n begun stored s es ek en e = e ∙ rw (job_seen q slot kind n es ek en)
+    (unwrap_or stored (start_of (view kind n (take (1024 + 640 * slot + 640 - (1024 + 640 * slot)) (drop (1024 + 640 * slot) q)))))
+    → s ≡ step_of (first_job q) (unwrap_or stored (start_of (first_job q)))
+job_stepped q slot kind n stored s es ek en e = e ∙ rw (job_seen q slot kind n es ek en)
 
 -- ---- the slots of the jobs held, one after another
 
@@ -169,16 +170,6 @@ held_some q held e n = omega arith
 state_later : (q : List ℕ) (turns : ℕ) (s : State) → turns ≡ u64_at q turns_at → (turns ≡ 0 → ⊥) → s ≡ load_state q → s ≡ state_of q
 unfolding state_of
 state_later q turns s et n es = rw (← et, ne_eqb _ _ n, ← es)
-
--- the step of a turn, from the stored state where the job has begun
-pub turn_steps : (q : List ℕ) (turns : ℕ) (begun : Bool) (stored s : State) → turns ≡ u64_at q turns_at → begun ≡ not (eqb turns 0) → stored ≡ load_state q
-    → s ≡ step_of (first_job q) (cond begun stored (start_of (first_job q))) → s ≡ stepped_of q
-unfolding stepped_of state_of
-turn_steps q turns begun stored s et eb es e = e ∙ ap (step_of (first_job q)) (rw (eb, es, et) (go (eqb (u64_at q turns_at) 0)))
-  where
-    go : (t : Bool) → cond (not t) (load_state q) (start_of (first_job q)) ≡ cond t (start_of (first_job q)) (load_state q)
-    go true = refl
-    go false = refl
 
 module _ (queue : ℕ) (q buffer : List ℕ) where
   -- what the code answers and leaves is what the definition does

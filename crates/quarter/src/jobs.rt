@@ -1,5 +1,5 @@
 // The jobs that a quarter holds: the first one, and one that is added. A job stands in the slot of its ticket modulo 8.
-ghost use Rattle.std.specs.Prelude.{◌≡◌, ◌<◌, if◌then◌else◌};
+ghost use Rattle.std.specs.Prelude.{◌≡◌, ◌<◌, unwrap_or};
 ghost use Rattle.buf.specs.Bytes.{u64_at};
 ghost use Rattle.board_spec.specs.Layout.{accepted_at, held_at};
 ghost use Rattle.stepping.specs.Stepping.{start_of, step_of};
@@ -30,16 +30,16 @@ pub fn first_kind(q: &Quarter) -> u64
     buf::get_u64(q, 128 + 16 * slot)
 }
 
-// A step of the first job, from its first state or from a stored one.
-pub fn step_first(q: &Quarter, begun: bool, stored: State) -> State
-    ensures { result ≡ step_of (first_job q.now) (if begun then stored else start_of (first_job q.now)) }
+// A step of the first job, from a stored state or else its first.
+pub fn step_first(q: &Quarter, stored: Option<State>) -> State
+    ensures { result ≡ step_of (first_job q.now) (unwrap_or stored (start_of (first_job q.now))) }
 {
     let slot = first_slot(q);
     let kind = buf::get_u64(q, 128 + 16 * slot);
     let n = buf::get_u64(q, 136 + 16 * slot);
     let from = 1024 + 640 * slot;
     let end = from + 640;
-    stepping::step_request(kind, n, &q[from..end], begun, stored)
+    stepping::step_request(kind, n, &q[from..end], stored)
 }
 
 #[tactic(auto, unfolding(board_spec::specs::Quarter::put_job))]

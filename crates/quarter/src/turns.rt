@@ -1,21 +1,28 @@
 // A turn of a queue: one evaluation of its first job, or none once its search has ended. The job leaves with its record on the
 // last turn of its span.
-ghost use Rattle.std.specs.Prelude.{◌≡◌, ◌+◌, ◌^◌, ◌<◌, ◌≤◌, true, not, ◌&&◌, length, ◌==◌, if◌then◌else◌};
+ghost use Rattle.std.specs.Prelude.{◌≡◌, ◌+◌, ◌^◌, ◌<◌, ◌≤◌, true, Some, None, not, ◌&&◌, length, ◌==◌, if◌then◌else◌};
 ghost use Rattle.buf.specs.Bytes.{u64_at};
 ghost use Rattle.board_spec.specs.Layout.{held_at, turns_at};
 ghost use Rattle.stepping.specs.Stepping.{at_end};
-ghost use Rattle.board_spec.specs.Quarter.{load_counters, quarter_fits, stepped_of, kept_quarter, freed_quarter, turn_quarter};
+ghost use Rattle.board_spec.specs.Quarter.{load_counters, load_state, quarter_fits, stepped_of, kept_quarter, freed_quarter, turn_quarter};
 
 use crate::bytes::Quarter;
 use crate::jobs::{first_kind, first_ticket, step_first};
 use crate::state::{load_counters, load_state, store_state};
 use solver_state::State;
 
+// The stored state, where the first job has had a turn.
+fn stored(q: &Quarter) -> Option<State>
+    ensures { result ≡ (if u64_at q.now turns_at == 0 then None else Some (load_state q.now)) }
+{
+    (buf::get_u64(q, 16) != 0).then(|| load_state(q))
+}
+
+#[tactic(auto, unfolding(board_spec::specs::Quarter::stepped_of, board_spec::specs::Quarter::state_of))]
 fn stepped(q: &Quarter) -> State
     ensures { result ≡ stepped_of q.now }
 {
-    let begun = buf::get_u64(q, 16) != 0;
-    step_first(q, begun, load_state(q))
+    step_first(q, stored(q))
 }
 
 // Whether the first job has had a turn and its search has ended.

@@ -1,5 +1,5 @@
 // A job of a request block: its first state, one evaluation further, the range of a stored state, and its end.
-ghost use Rattle.std.specs.Prelude.{◌≡◌, if◌then◌else◌};
+ghost use Rattle.std.specs.Prelude.{◌≡◌, unwrap_or};
 ghost use Rattle.reader.specs.View.{view};
 ghost use Rattle.solver.specs.Evaluated.{evaluated};
 ghost use Rattle.stepping.specs.Stepping.{task_search, work_of, refused_state, start_by, start_of, step_by, step_of, at_end, data_refusal, counters_fit, result_of};
@@ -81,20 +81,14 @@ fn refused(number: u64) -> State
     ensures { result ≡ refused_state number }
 {
     let counters = Counters {
-        stage: 0,
-        tag: 0,
         status: number,
-        left: 0,
-        way: 0,
-        rounds: 0,
-    };
-    let values = Values {
-        first: 0.0,
-        second: 0.0,
-        third: 0.0,
+        ..Counters::default()
     };
     State {
-        numbers: Numbers { counters, values },
+        numbers: Numbers {
+            counters,
+            values: Values::default(),
+        },
         evaluations: 0,
         latest: 0.0,
     }
@@ -111,6 +105,7 @@ fn start_by(work: Work) -> State
 }
 
 // A job before its first evaluation.
+#[tactic(auto, unfolding(crate::specs::Stepping::start_of))]
 pub fn start(job: Job) -> State
     ensures { result ≡ start_of job }
 {
@@ -119,6 +114,7 @@ pub fn start(job: Job) -> State
     start_by(work(blend, task))
 }
 
+#[tactic(auto, unfolding(crate::specs::Stepping::step_by))]
 fn step_by(blend: Blend, work: Work, state: State) -> State
     ensures { result ≡ step_by (evaluated blend) work state }
 {
@@ -144,6 +140,7 @@ fn step_by(blend: Blend, work: Work, state: State) -> State
 }
 
 // One evaluation further, or the same state at an end.
+#[tactic(auto, unfolding(crate::specs::Stepping::step_of))]
 pub fn step(job: Job, state: State) -> State
     ensures { result ≡ step_of job state }
 {
@@ -152,24 +149,21 @@ pub fn step(job: Job, state: State) -> State
     step_by(blend, work(blend, task), state)
 }
 
-// The state that a job goes on from: the stored one, or its first where it has not begun.
-fn state_of(work: Work, begun: bool, stored: State) -> State
-    ensures { result ≡ (if begun then stored else start_by work) }
+// The state that a job goes on from: the stored one, or its first where it has not begun and none is stored.
+fn state_of(work: Work, stored: Option<State>) -> State
+    ensures { result ≡ unwrap_or stored (start_by work) }
 {
-    if begun {
-        return stored;
-    }
-    start_by(work)
+    stored.unwrap_or_else(|| start_by(work))
 }
 
 // A step of a request's job, whose blend is made of its block in place and not handed through a `Job`.
-pub fn step_request(kind: u64, n: u64, block: &[u8], begun: bool, stored: State) -> State
-    ensures { result ≡ step_of (view kind n block.now) (if begun then stored else start_of (view kind n block.now)) }
+pub fn step_request(kind: u64, n: u64, block: &[u8], stored: Option<State>) -> State
+    ensures { result ≡ step_of (view kind n block.now) (unwrap_or stored (start_of (view kind n block.now))) }
 {
     let mut blend = block::empty();
     let task = reader::read(kind, n, block, &mut blend);
     let work = work(blend, task);
-    step_by(blend, work, state_of(work, begun, stored))
+    step_by(blend, work, state_of(work, stored))
 }
 
 // Whether a search has ended, so that no step leads on.
@@ -199,22 +193,20 @@ pub fn counters_fit(kind: u64, counters: Counters) -> bool
 }
 
 // How a job ended.
+#[tactic(auto, unfolding(crate::specs::Stepping::result_of))]
 pub fn result(state: State) -> Ended
     ensures { result ≡ result_of state }
 {
     let numbers = state.numbers;
     let counters = numbers.counters;
     if at_end(counters) {
-        let values = numbers.values;
         return Ended {
             status: counters.status,
-            values,
+            values: numbers.values,
         };
     }
-    let values = Values {
-        first: 0.0,
-        second: 0.0,
-        third: 0.0,
-    };
-    Ended { status: 22, values }
+    Ended {
+        status: 22,
+        values: Values::default(),
+    }
 }

@@ -6,7 +6,7 @@ use solver::Values;
 pub type Work = Result<solver_state::Job, Refusal>;
 
 // How a job ended: the status and the floats of its record.
-#[derive(Clone, Copy)]
+#[derive(Clone, Copy, PartialEq)]
 pub struct Ended {
     pub status: u64,
     pub values: Values,

@@ -5,4 +5,4 @@ use Rattle.quarter.proofs.jobs.step_first.Goals as goal
 pub returns : goal.returns
 returns c =
     let A = c.args in
-    job_stepped _ _ _ _ A.begun A.stored _ c.first_slot-slot.ensures.0 c.get_u64-kind.ensures c.get_u64-n.ensures c.step_request.ensures
+    job_stepped _ _ _ _ A.stored _ c.first_slot-slot.ensures.0 c.get_u64-kind.ensures c.get_u64-n.ensures c.step_request.ensures

@@ -6,4 +6,4 @@ use Rattle.stepping.proofs.jobs.step_request.Goals as goal
 pub returns : goal.returns
 returns c =
     let A = c.args in
-    step_read A.begun A.stored (view A.kind A.n A.block.now) _ _ _ _ _ c.read-task.ensures c.work-work.ensures c.state_of.ensures c.step_by.ensures
+    step_read A.stored (view A.kind A.n A.block.now) _ _ _ _ _ c.read-task.ensures c.work-work.ensures c.state_of.ensures c.step_by.ensures
