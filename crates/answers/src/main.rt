@@ -6,8 +6,7 @@ ghost use Rattle.std.specs.Prelude.{◌≡◌, ◌≤◌, ◌<◌, length};
 ghost use Rattle.buf.specs.Bytes.{splice};
 ghost use Rattle.answers.specs.Reply.{reply_of};
 
-use std::io;
-use std::io::{BufReader, Read, Write};
+use std::io::{self, Read, Write};
 
 // Stores the line of a whole request at the start of `out`, and answers its length.
 fn reply(request: &[u8], out: &mut [u8]) -> usize
@@ -25,27 +24,44 @@ fn reply(request: &[u8], out: &mut [u8]) -> usize
     text::put_number(out, 0, refusal, b'\n')
 }
 
-// Prints the line of a whole request.
-fn print_reply(rt: &impl Print, request: &[u8]) -> io::Result<()>
-    requires { 642 ≡ length request.now }
+// Reads until `s` is full, the input ends or a read fails. Answers how many bytes there were.
+fn read_full(input: &mut impl Read, s: &mut [u8]) -> usize
+    ensures { result ≤ length s.old }
 {
-    let mut out = [0u8; 114];
-    let end = reply(request, &mut out);
-    io::writer(rt).write_all(&out[..end])
-}
-
-// A loop has to end, and nothing says that the input does: no run uses up this count.
-fn main(rt: HostRuntime) -> io::Result<()> {
-    let mut input = BufReader::new(rt.alloc(), rt.reader())?;
-    let mut request = Vec::new(rt.alloc());
-    for _ in 0..u64::MAX {
-        request.clear();
-        input.by_ref().take(642).read_to_end(&mut request)?;
-        match request.len() {
-            0 => break,
-            642 => print_reply(&rt, &request)?,
-            _ => return println!(rt; "short"),
+    let mut done = 0;
+    while done < s.len() {
+        match input.read(&mut s[done..]) {
+            Ok(got) if 0 < got => done += got,
+            _ => break,
         }
     }
-    Ok(())
+    done
+}
+
+// Reads a request and writes its line. Answers whether to go on.
+fn answer_next(input: &mut impl Read, output: &mut impl Write) -> bool {
+    let mut request = [0u8; 642];
+    let mut out = [0u8; 114];
+    let got = read_full(input, &mut request);
+    if got == 0 {
+        return false;
+    }
+    if got < 642 {
+        output.write_all(b"short\n").unwrap_or(());
+        return false;
+    }
+    let end = reply(&request, &mut out);
+    output.write_all(&out[..end]).is_ok()
+}
+
+// A loop has to end, and nothing says that the input does: no run uses up this count. A failed read is the end of the input, and
+// a failed write ends the run.
+fn main(rt: HostRuntime) {
+    let mut input = rt.stdin();
+    let mut output = io::writer(&rt);
+    for _ in 0..u64::MAX {
+        if !answer_next(&mut input, &mut output) {
+            break;
+        }
+    }
 }

@@ -16,6 +16,7 @@ pub fn read_blend_components(n: usize, block: &[u8], at: usize, blend: &mut Blen
     requires { (n ≤ 8) × (at + 24 * n ≤ length block.now) × (blend.old.tc ≡ replicate 8 f0) × (blend.old.a ≡ replicate 8 f0) × (blend.old.b ≡ replicate 8 f0) × (blend.old.kappa ≡ replicate 8 f0) }
     ensures fits { result ≡ components_fit n (floats_at (coefficient_count n) block.now at) }
     ensures read { result ≡ true → blend.new ≡ with_components n (floats_at (coefficient_count n) block.now at) blend.old }
+    ensures kept { blend.new ≡ record blend.old { tc = blend.new.tc; a = blend.new.a; b = blend.new.b; kappa = blend.new.kappa } }
 {
     for i in 0..n {
         let Some(c) = component(block, at + 24 * i) else {
@@ -68,6 +69,7 @@ pub fn read_blend_interactions(
     requires { (1 ≤ n) × (n ≤ 8) × (at + 4 * (n * (n - 1)) ≤ length block.now) × (blend.old.k_ij ≡ replicate 64 f0) }
     ensures fits { result ≡ interactions_fit n (floats_at (interaction_count n) block.now at) }
     ensures read { result ≡ true → blend.new ≡ cond (reads_fractions kind) (with_interactions n (floats_at (interaction_count n) block.now at) blend.old) blend.old }
+    ensures kept { blend.new ≡ record blend.old { k_ij = blend.new.k_ij } }
 {
     if reads_fractions(kind) {
         read_interactions(n, block, at, &mut blend.k_ij)
@@ -81,6 +83,7 @@ pub fn read_blend_fractions(kind: u64, n: usize, block: &[u8], at: usize, blend:
     requires { (n ≤ 8) × (at + 8 * n ≤ length block.now) × (blend.old.x ≡ replicate 8 f0) }
     ensures fits { result ≡ fractions_fit n (floats_at (fraction_count kind n) block.now at) }
     ensures read { result ≡ true → blend.new ≡ with_fractions (floats_at (fraction_count kind n) block.now at) blend.old }
+    ensures kept { blend.new ≡ record blend.old { x = blend.new.x } }
 {
     let count = fraction_count(kind, n);
     for i in 0..count {

@@ -5,7 +5,7 @@ use mathlib.Core.Bool.{true}
 use mathlib.Core.List.{List, [], ◌∷◌, ◌++◌, append_assoc}
 use native.Mathlib.Omega.{arith}
 use native.Mathlib.Nat.{div-div-eq-div-mul, le_of_suc-le-suc, not-suc-le-zero, pow-suc, add-zero, add-suc, sub-zero}
-use lib.ListN.{length, take, drop, get_or, set, length-replicate, length-take, length-drop}
+use lib.ListN.{length, take, drop, get_or, set, length-replicate, length-take, length-drop, drop_of_length-le}
 use lib.Seq.{get_or-take, get_or-drop, sets, sets-eq, length-sets, drop-cons, drop-set-lt, take-set-le, take-set-lt, drop-set-add, drop-drop, take-take, take_at, drop_at, length-take-le}
 use lib.Dec.{leb}
 use borrow.Author.Tests.{leb-true}
@@ -214,6 +214,16 @@ put_step s at k x i h =
     ∙ splice_cons s (at + i) (x % 256) (bytes_of (k - (i + 1)) (x / 256))
     ∙ ap (λ (n : ℕ). splice (set s (at + i) (x % 256)) n (bytes_of (k - (i + 1)) (x / 256))) e₂
 
+pub copy_step : (s b : List ℕ) (at i : ℕ) → i < length b
+    → splice s (at + i) (drop i b) ≡ splice (set s (at + i) (get_or b i 0)) (at + (i + 1)) (drop (i + 1) b)
+copy_step s b at i h =
+    let e₁ : suc i ≡ i + 1 = omega arith in
+    let e₂ : suc (at + i) ≡ at + (i + 1) = omega arith in
+    ap (splice s (at + i)) (drop-cons b i 0 h)
+    ∙ splice_cons s (at + i) (get_or b i 0) (drop (suc i) b)
+    ∙ ap (λ (n : ℕ). splice (set s (at + i) (get_or b i 0)) n (drop (suc i) b)) e₂
+    ∙ ap (λ (n : ℕ). splice (set s (at + i) (get_or b i 0)) (at + (i + 1)) (drop n b)) e₁
+
 -- where a loop begins, and where it ends
 pub get_none : (s : List ℕ) (at k i : ℕ) → i ≡ k → 0 ≡ le (part s (at + i) (k - i))
 unfolding le part
@@ -310,3 +320,6 @@ part_zeros n a k h = take_drop_zeros n a k h
 pub num_at_zeros : (k n a : ℕ) → leb (a + k) n ≡ true → num_at k (zeros n) a ≡ 0
 unfolding num_at
 num_at_zeros k n a h = ap le (part_zeros n a k (leb-true (a + k) n h)) ∙ le_zeros k
+
+pub copy_all : (s w b : List ℕ) (at i : ℕ) → length b ≤ i → splice s (at + i) (drop i b) ≡ w → s ≡ w
+copy_all s w b at i h e = sym (splice_nil s (at + i)) ∙ ap (splice s (at + i)) (sym (drop_of_length-le b h)) ∙ e

@@ -29,12 +29,14 @@ pub fn put_num(s: &mut [u8], at: usize, k: usize, v: u64)
     }
 }
 
-// Stores all of b from index at.
+// Stores all of b from index at. By `copy_from_slice` the library for C would need memmove from outside.
 pub fn put_part(s: &mut [u8], at: usize, b: &[u8])
     requires { at + length b.now ≤ length s.old }
     ensures { s.new ≡ splice s.old at b.now }
 {
-    s[at..at + b.len()].copy_from_slice(b);
+    for i in 0..b.len() {
+        s[at + i] = b[i];
+    }
 }
 
 // The compiler makes one load of it.

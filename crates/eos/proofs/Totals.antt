@@ -8,7 +8,7 @@ use mathlib.Core.Logic.{⊎_elim}
 use mathlib.Core.List.{List, []}
 use lib.ListN.{length, set}
 use lib.Seq.{get_or-set_same, get_or-set_other}
-use lib.Ieee.{Float}
+use lib.Ieee.{Float, nan}
 use Rattle.float.specs.Ops.{◌⊕◌, f0}
 use Rattle.jet.specs.declared.Jet.{Jet}
 use Rattle.jet.specs.Coefficients.{Upto, number_of}
@@ -17,7 +17,7 @@ use Rattle.jet.proofs.Prefix.{add_upto}
 use Rattle.jet.proofs.Depends.{product_first}
 use Rattle.eos.specs.Indices.{fold_from, total, jet_total}
 use Rattle.eos.specs.Jets.{jet_at}
-use Rattle.eos.specs.Cubic.{mix_term, mix_row, ak_mix, b_mix}
+use Rattle.eos.specs.Cubic.{nth, mix_term, mix_row, ak_mix, b_mix}
 use Rattle.eos.proofs.Folds.{Keeps, fold_same, fold_cong, fold_keeps}
 use Rattle.eos.proofs.Chain.{mix_term_cong}
 
@@ -38,6 +38,13 @@ unfolding total
 total_same n f g h e = fold_same (λ s i. s ⊕ f i) (λ s i. s ⊕ g i) (n - 1) 1 (f 0) (λ j t l m. ap (λ (y : Float). t ⊕ y) (e j (omega arith))) ∙ ap (fold_from (λ s i. s ⊕ g i) (n - 1) 1) (e 0 h)
 
 -- ---- arrays, filled one after the other
+
+pub set_turn : (P : ℕ → Float → Type 0) (out : List Float) (i : ℕ) (r : Float) → i < length out → ((k : ℕ) → k < i → P k (nth out k)) → P i r → (k : ℕ) → k < i + 1 → P k (nth (set out i r) k)
+set_turn P out i r h e p k l =
+    ⊎_elim
+    (λ (q : k ≡ i). subst (λ (z : ℕ). P z (nth (set out i r) z)) (sym q) (subst (P i) (sym (get_or-set_same out i r nan h)) p))
+    (λ (q : k < i). subst (P k) (sym (get_or-set_other out i k r nan (λ d. omega arith))) (e k q))
+    (eq-or-lt_of_le (le_of_suc-le-suc (rw add-one at l)))
 
 pub put_turn : (P : ℕ → List Float → Type 0) (out : List Jet) (i : ℕ) (r : Jet) → i < length out → ((k : ℕ) → k < i → P k (jet_at out k)) → P i r.c → (k : ℕ) → k < i + 1 → P k (jet_at (set out i r) k)
 put_turn P out i r h e p k l =

@@ -9,8 +9,10 @@ ghost use Rattle.std.specs.Prelude.{◌≤◌, IsTrue};
 
 use eos::Blend;
 use evaluations::{Criticality, Pressure, PressureCriticality, Stability};
-use std::io;
-use std::io::{BufReader, BufWriter, ErrorKind, Read, Write};
+use std::io::{self, Cursor, ErrorKind, Read, Write};
+
+// The longest line: 12 words of 16 digits, and what stands after each.
+const MOST_LENGTH: usize = 204;
 
 // In the order of their bytes.
 #[derive(Clone, Copy)]
@@ -54,6 +56,22 @@ impl Evaluation {
             }
             _ => 1 <= n && n <= 8,
         }
+    }
+}
+
+// How many interactions n components have.
+fn pairs(n: usize) -> usize
+    ensures { result ≤ 28 }
+{
+    match n {
+        1 => 0,
+        2 => 1,
+        3 => 3,
+        4 => 6,
+        5 => 10,
+        6 => 15,
+        7 => 21,
+        _ => 28,
     }
 }
 
@@ -192,31 +210,38 @@ fn print_evaluation(
     }
 }
 
-// Runs evaluations until one is cut off, an unexpected end, or its two bytes ask for none, invalid data. A loop has to end,
-// and no input uses up this count.
-fn run_all(input: &mut impl Read, out: &mut impl Write) -> io::Result<()> {
-    for _ in 0..u64::MAX {
-        let mut head = [0u8; 2];
-        input.read_exact(&mut head)?;
-        let evaluation = Evaluation::try_from(head[0])?;
-        let n = usize::from(head[1]);
-        if !evaluation.takes(n) {
-            return Err(io::Error::from(ErrorKind::InvalidData));
-        }
-        let blend = read_blend(input, n)?;
-        let t = read_float(input)?;
-        let rho = read_float(input)?;
-        print_evaluation(out, evaluation, blend, t, rho)?;
+// Reads a whole evaluation, and then prints its line in one piece. Two bytes that ask for none are invalid data. A failed write is not told.
+fn run_one(input: &mut impl Read, out: &mut impl Write) -> io::Result<()> {
+    let mut head = [0u8; 2];
+    input.read_exact(&mut head)?;
+    let evaluation = Evaluation::try_from(head[0])?;
+    let n = usize::from(head[1]);
+    if !evaluation.takes(n) {
+        return Err(io::Error::from(ErrorKind::InvalidData));
     }
+    let mut bytes = [0u8; 496];
+    let size = 8 * (4 * n + pairs(n) + 2);
+    input.read_exact(&mut bytes[..size])?;
+    let mut rest = &bytes[..size];
+    let blend = read_blend(&mut rest, n)?;
+    let t = read_float(&mut rest)?;
+    let rho = read_float(&mut rest)?;
+    let mut line = Cursor::new([0u8; MOST_LENGTH]);
+    print_evaluation(&mut line, evaluation, blend, t, rho)?;
+    let end = line.position() as usize;
+    out.write_all(line.get_ref().get(..end).unwrap_or(&[]))
+        .unwrap_or(());
     Ok(())
 }
 
-fn main(rt: HostRuntime) -> io::Result<()> {
-    let mut input = BufReader::new(rt.alloc(), rt.reader())?;
-    let mut out = BufWriter::new(rt.alloc(), io::writer(&rt))?;
-    match run_all(&mut input, &mut out) {
-        Err(e) if matches!(e.kind(), ErrorKind::UnexpectedEof | ErrorKind::InvalidData) => {}
-        ended => ended?,
+// Runs evaluations until one is cut off, a read fails or its two bytes ask for none. A loop has to end, and no input uses up this
+// count.
+fn main(rt: HostRuntime) {
+    let mut input = rt.stdin();
+    let mut out = io::writer(&rt);
+    for _ in 0..u64::MAX {
+        if run_one(&mut input, &mut out).is_err() {
+            break;
+        }
     }
-    out.flush()
 }

@@ -3,14 +3,34 @@
 // and min of the value of the line before and x, and 1 or 0 for a minus sign and for finite.
 #![tactic(auto)]
 
-use std::io;
-use std::io::{BufWriter, Read, Write};
+ghost use Rattle.std.specs.Prelude.{◌≤◌, ◌<◌, length};
+
+use std::io::{self, Cursor, Read, Write};
+
+// The longest line: 7 words of 16 digits and two digits, and what stands after each.
+const MOST_LENGTH: usize = 123;
 
 // What the input has beyond these bytes is not read.
-const MOST_BYTES: u64 = 65536;
+const MOST_BYTES: usize = 65536;
+
+// Reads until `s` is full, the input ends or a read fails. Answers how many bytes there were.
+fn read_full(input: &mut impl Read, s: &mut [u8]) -> usize
+    ensures { result ≤ length s.old }
+{
+    let mut done = 0;
+    while done < s.len() {
+        match input.read(&mut s[done..]) {
+            Ok(got) if 0 < got => done += got,
+            _ => break,
+        }
+    }
+    done
+}
 
 // '0' to '9' and 'a' to 'f'. Not from_str_radix: each other byte has a value too.
-fn digit(c: u8) -> u64 {
+fn digit(c: u8) -> u64
+    ensures { result < 16 }
+{
     let d = if c < b'a' { c } else { c % 16 + 9 };
     u64::from(d % 16)
 }
@@ -45,19 +65,27 @@ fn print_selections(out: &mut impl Write, before: f64, x: f64) -> io::Result<()>
     )
 }
 
-fn main(rt: HostRuntime) -> io::Result<()> {
-    let mut input = Vec::new(rt.alloc());
-    rt.reader().take(MOST_BYTES).read_to_end(&mut input)?;
-    let mut out = BufWriter::new(rt.alloc(), io::writer(&rt))?;
+// In one piece.
+fn print_line(out: &mut impl Write, before: f64, x: f64, is_long: bool) -> io::Result<()> {
+    let mut line = Cursor::new([0u8; MOST_LENGTH]);
+    print_functions(&mut line, x)?;
+    if is_long {
+        print_selections(&mut line, before, x)?;
+    }
+    writeln!(line)?;
+    let end = line.position() as usize;
+    out.write_all(line.get_ref().get(..end).unwrap_or(&[]))
+}
+
+// A failed write is not told.
+fn main(rt: HostRuntime) {
+    let mut input = [0u8; MOST_BYTES];
+    let count = read_full(&mut rt.stdin(), &mut input);
+    let mut out = io::writer(&rt);
     let mut before = 0.0;
-    for (i, line) in input.chunks_exact(17).enumerate() {
+    for (i, line) in input[..count].chunks_exact(17).enumerate() {
         let x = value(line);
-        print_functions(&mut out, x)?;
-        if i < 256 {
-            print_selections(&mut out, before, x)?;
-        }
-        writeln!(out)?;
+        print_line(&mut out, before, x, i < 256).unwrap_or(());
         before = x;
     }
-    out.flush()
 }

@@ -4,8 +4,10 @@
 #![tactic(auto)]
 
 use jet::Jet;
-use std::io;
-use std::io::{BufReader, BufWriter, ErrorKind, Read, Write};
+use std::io::{self, Cursor, Read, Write};
+
+// 32 words of 16 digits, and what stands after each.
+const LINE_LENGTH: usize = 544;
 
 // What an operation byte asks for: a whole jet, a derivative by a mark, or the first coefficients.
 #[derive(Clone, Copy)]
@@ -112,23 +114,27 @@ fn print_line(out: &mut impl Write, a: Jet) -> io::Result<()> {
     writeln!(out)
 }
 
-// Runs operations until one is cut off, an unexpected end. A loop has to end, and no input uses up this count.
-fn run_all(input: &mut impl Read, out: &mut impl Write) -> io::Result<()> {
-    for _ in 0..u64::MAX {
-        let operation = read_operation(input)?;
-        let a = read_jet(input)?;
-        let b = read_jet(input)?;
-        print_line(out, operation.apply(a, b))?;
-    }
+// Reads a whole operation, and then prints its line in one piece. A failed write is not told.
+fn run_one(input: &mut impl Read, out: &mut impl Write) -> io::Result<()> {
+    let mut bytes = [0u8; 513];
+    input.read_exact(&mut bytes)?;
+    let mut rest = &bytes[..];
+    let operation = read_operation(&mut rest)?;
+    let a = read_jet(&mut rest)?;
+    let b = read_jet(&mut rest)?;
+    let mut line = Cursor::new([0u8; LINE_LENGTH]);
+    print_line(&mut line, operation.apply(a, b))?;
+    out.write_all(line.get_ref()).unwrap_or(());
     Ok(())
 }
 
-fn main(rt: HostRuntime) -> io::Result<()> {
-    let mut input = BufReader::new(rt.alloc(), rt.reader())?;
-    let mut out = BufWriter::new(rt.alloc(), io::writer(&rt))?;
-    match run_all(&mut input, &mut out) {
-        Err(e) if e.kind() == ErrorKind::UnexpectedEof => {}
-        ended => ended?,
+// Runs operations until one is cut off or a read fails. A loop has to end, and no input uses up this count.
+fn main(rt: HostRuntime) {
+    let mut input = rt.stdin();
+    let mut out = io::writer(&rt);
+    for _ in 0..u64::MAX {
+        if run_one(&mut input, &mut out).is_err() {
+            break;
+        }
     }
-    out.flush()
 }

@@ -1,6 +1,6 @@
 // One run of `jobs` in the gate.
 #![tactic(auto)]
 
-fn main(rt: HostRuntime) {
-    jobs::answer_input(&rt);
+fn main() {
+    jobs::answer_input();
 }

@@ -7,7 +7,10 @@ ghost use Rattle.buf.specs.Bytes.{splice};
 ghost use Rattle.jobs.specs.Line.{refused_number, verdict_of, refusal_by, record_by, reply_of};
 
 use board::Refusal;
-use std::io::{self, Read, Write};
+
+const STDIN_FILENO: i32 = 0;
+
+const STDOUT_FILENO: i32 = 1;
 
 // Runs a job on the board, which is cleared first, and writes its record, unless the submit is refused. A span has at most 6,204 turns of
 // the job's queue, every fourth one.
@@ -42,19 +45,14 @@ fn reply(request: &[u8; 642], out: &mut [u8]) -> usize
 }
 
 // Answers the request on standard input with the record's line. Bytes after the request are ignored; where there are fewer, `short` is printed.
-// A failed write is not told.
-pub fn answer_input(rt: &(impl Input + Print)) {
-    match try_answer_input(rt) {
-        Ok(()) | Err(_) => {}
-    }
-}
-
-fn try_answer_input(rt: &(impl Input + Print)) -> io::Result<()> {
+// By the kit's `io`, since std's readers are handed out by the runtime of `main` alone, and this asks for none.
+pub fn answer_input() {
     let mut request = [0u8; 642];
-    if rt.reader().read_exact(&mut request).is_err() {
-        return println!(rt; "short");
+    if io::read_full(STDIN_FILENO, &mut request) < 642 {
+        io::write_all(STDOUT_FILENO, b"short\n");
+        return;
     }
-    let mut out = [0u8; 128];
+    let mut out = [0u8; 114];
     let end = reply(&request, &mut out);
-    io::writer(rt).write_all(&out[..end])
+    io::write_all(STDOUT_FILENO, &out[..end]);
 }

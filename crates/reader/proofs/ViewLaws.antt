@@ -1,7 +1,7 @@
 -- What holds of every refusal and of the job that passes every check holds of every view: the walk along the checks, once. Likewise along the kinds. Assumes nothing.
 use mathlib.Core.Path.{◌≡◌, refl, ap}
 use Prim.Native.Nat.{ℕ}
-use mathlib.Core.Bool.{Bool, true, false, cond}
+use mathlib.Core.Bool.{Bool, true, false, cond, false≢true}
 use mathlib.Core.List.{List}
 use lib.ListN.{length}
 use lib.Dec.{leb, ltb, eqb}
@@ -121,6 +121,12 @@ not_refused_left (Ok task) h = refl
 not_refused_left (Err refusal) h = absurd (h refusal refl)
 
 -- ---- a request that no check refuses
+
+-- no number where there is no refusal
+pub no_number : (task : Result Task Refusal) → not_refused task ≡ true → refusal_of task ≡ 0
+unfolding not_refused refusal_of
+no_number (Ok task) h = refl
+no_number (Err refusal) h = absurd (false≢true h)
 
 -- no refusal's number says that there is none
 pub number_not_0 : (refusal : Refusal) → number_of refusal ≡ 0 → ⊥

@@ -82,6 +82,12 @@ refused_bytes number = ap (λ (s : List ℕ). bytes_of 8 number ++ s) rest
     rest : float_bytes f0 ++ (float_bytes f0 ++ (float_bytes f0 ++ (bytes_of 8 0 ++ zeros 8))) ≡ zeros 40
     rest = unfold zeros bytes_of to_bits of_bits in refl
 
+-- a job that is refused by this number, and nothing else
+record RefusedBy (number : ℕ) (job : Job) : Type 0 where
+  refusal : Refusal
+  number_is : refusal_number refusal ≡ number
+  job_is : job ≡ refused refusal
+
 module _ (kind n : ℕ) (block : List ℕ) (k : Inside 1 9 kind) (c : CountRight kind n) (l : length block ≡ 640) where
   abbrev job : Job
   job = view kind n block
@@ -124,16 +130,20 @@ module _ (kind n : ℕ) (block : List ℕ) (k : Inside 1 9 kind) (c : CountRight
   unfolding outcome_of end_of course_of refused
   ended_by refusal e = rw e
 
-  only_end : (number : ℕ) → Inside 11 17 number → DataTests kind n block number → outcome_of job ≡ refused_end number
+  -- the job is the one check's that has this number
+  only_job : (number : ℕ) → Inside 11 17 number → DataTests kind n block number → RefusedBy number job
   unfolding refusal_number
-  only_end number i (DataTests.refused_11 e₁) = ended_by Refusal.Pairs (rw (view_is, e₁))
-  only_end number i (DataTests.refused_12 e₁ e₂) = ended_by Refusal.Components (rw (view_is, e₁, e₂))
-  only_end number i (DataTests.refused_13 e₁ e₂ e₃) = ended_by Refusal.Interactions (rw (view_is, e₁, e₂, e₃))
-  only_end number i (DataTests.refused_14 e₁ e₂ e₃ e₄) = ended_by Refusal.Fractions (rw (view_is, e₁, e₂, e₃, e₄))
-  only_end number i (DataTests.refused_17 e₁ e₂ e₃ e₄ e₅) = ended_by Refusal.FractionSum (rw (view_is, e₁, e₂, e₃, e₄, e₅))
-  only_end number i (DataTests.refused_15 e₁ e₂ e₃ e₄ e₅ e₆) = ended_by Refusal.Conditions (rw (view_is, e₁, e₂, e₃, e₄, e₅, e₆))
-  only_end number i (DataTests.refused_16 e₁ e₂ e₃ e₄ e₅ e₆ e₇) = ended_by Refusal.Choice (rw (view_is, e₁, e₂, e₃, e₄, e₅, e₆, e₇))
-  only_end number i (DataTests.passed e₁ e₂ e₃ e₄ e₅ e₆ e₇ s) = absurd (search_not s i)
+  only_job number i (DataTests.refused_11 e₁) = record { refusal = Refusal.Pairs; number_is = refl; job_is = rw (view_is, e₁) }
+  only_job number i (DataTests.refused_12 e₁ e₂) = record { refusal = Refusal.Components; number_is = refl; job_is = rw (view_is, e₁, e₂) }
+  only_job number i (DataTests.refused_13 e₁ e₂ e₃) = record { refusal = Refusal.Interactions; number_is = refl; job_is = rw (view_is, e₁, e₂, e₃) }
+  only_job number i (DataTests.refused_14 e₁ e₂ e₃ e₄) = record { refusal = Refusal.Fractions; number_is = refl; job_is = rw (view_is, e₁, e₂, e₃, e₄) }
+  only_job number i (DataTests.refused_17 e₁ e₂ e₃ e₄ e₅) = record { refusal = Refusal.FractionSum; number_is = refl; job_is = rw (view_is, e₁, e₂, e₃, e₄, e₅) }
+  only_job number i (DataTests.refused_15 e₁ e₂ e₃ e₄ e₅ e₆) = record { refusal = Refusal.Conditions; number_is = refl; job_is = rw (view_is, e₁, e₂, e₃, e₄, e₅, e₆) }
+  only_job number i (DataTests.refused_16 e₁ e₂ e₃ e₄ e₅ e₆ e₇) = record { refusal = Refusal.Choice; number_is = refl; job_is = rw (view_is, e₁, e₂, e₃, e₄, e₅, e₆, e₇) }
+  only_job number i (DataTests.passed e₁ e₂ e₃ e₄ e₅ e₆ e₇ s) = absurd (search_not s i)
+
+  only_end : (number : ℕ) → Inside 11 17 number → DataTests kind n block number → outcome_of job ≡ refused_end number
+  only_end number i t = let r = only_job number i t in ended_by r.refusal r.job_is ∙ ap refused_end r.number_is
 
   status_of_lem : {number : ℕ} → DataTests kind n block number → Status number
   status_of_lem (DataTests.refused_11 e₁) = of_data_lem {number = 11} (omega arith)

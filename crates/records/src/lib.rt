@@ -6,7 +6,7 @@ mod requests;
 mod types;
 mod writer;
 
-pub use crate::outcomes::run_job;
+pub use crate::outcomes::{refused, run_job};
 pub use crate::requests::{answer, fits, number};
 pub use crate::types::{Outcome, Unanswered};
 pub use crate::writer::{write_record, write_sealed};

@@ -6,8 +6,9 @@ use crate::types::Outcome;
 use reader::{Job, Task};
 use solver::{Ran, Values};
 
+// How a job ends that this number refuses, be it one that a check gives or not.
 #[tactic(auto, unfolding(crate::specs::Outcome::refused_end))]
-fn refused(number: u64) -> Outcome
+pub fn refused(number: u64) -> Outcome
     ensures { result ≡ refused_end number }
 {
     let values = Values {

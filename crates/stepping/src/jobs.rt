@@ -76,8 +76,9 @@ fn work(blend: Blend, task: Result<Task, Refusal>) -> Work
     }
 }
 
+// The state of a job that this number refuses, be it one that a check gives or not: it is at its end.
 #[tactic(auto, unfolding(crate::specs::Stepping::refused_state))]
-fn refused(number: u64) -> State
+pub fn refused(number: u64) -> State
     ensures { result ≡ refused_state number }
 {
     let counters = Counters {

@@ -6,5 +6,5 @@ mod jobs;
 mod types;
 
 pub use crate::answers::{after, answer, outcome};
-pub use crate::jobs::{at_end, counters_fit, result, start, step, step_request};
+pub use crate::jobs::{at_end, counters_fit, refused, result, start, step, step_request};
 pub use crate::types::{Ended, Work};

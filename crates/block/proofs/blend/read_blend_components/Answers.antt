@@ -80,3 +80,13 @@ returns-clause-fits c =
 
 pub returns-clause-read : goal.returns-clause-read
 returns-clause-read c = λ _. first_all _ _ _ _ c.args.blend.now c.loop-i-test.false c.loop-i.auto.i-end c.loop-i.invariant.filled
+
+-- what is read goes into its four rows alone, where a component does not fit too
+rows_kept : (row : List Float) (i : ℕ) (b old : Blend) → b ≡ with_first row i old → b ≡ record old { tc = b.tc; a = b.a; b = b.b; kappa = b.kappa }
+rows_kept row i b old e = rw e
+
+pub returns-in_default-clause-kept : goal.returns-in_default-clause-kept
+returns-in_default-clause-kept c = rows_kept _ _ _ c.args.blend.now c.loop-i.invariant.filled
+
+pub returns-clause-kept : goal.returns-clause-kept
+returns-clause-kept c = rows_kept _ _ _ c.args.blend.now c.loop-i.invariant.filled

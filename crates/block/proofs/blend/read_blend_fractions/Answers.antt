@@ -54,3 +54,9 @@ returns-clause-read c = λ _.
     let L = c.loop-i in
     let A = c.args in
     rw (← c.fraction_count-count.ensures) (L.invariant.filled ∙ rw (fractions_stored c.fraction_count-count.result A.block.now A.at L.i _ c.loop-i-test.false L.auto.i-end refl))
+
+pub returns-then-not-fraction_fits-clause-kept : goal.returns-then-not-fraction_fits-clause-kept
+returns-then-not-fraction_fits-clause-kept c = rw c.loop-i.invariant.filled
+
+pub returns-clause-kept : goal.returns-clause-kept
+returns-clause-kept c = rw c.loop-i.invariant.filled

@@ -1,6 +1,6 @@
--- `call_lines::input::read_full`.
+-- `float_vectors::read_full`.
 use Rattle.std.proofs.Common.{◌≡◌, ◌-◌, ◌≤◌, length}
-use Rattle.call_lines.proofs.input.read_full.Given as goal
+use Rattle.float_vectors.proofs.read_full.Given as goal
 
 abbrev pub invariant-loop-done : goal.invariant-loop-done
 invariant-loop-done g l = (l.done ≤ length l.initial.s) × (length l.s ≡ length l.initial.s)
